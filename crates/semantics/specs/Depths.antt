@@ -1,0 +1,25 @@
+-- How deep a value is.
+use Rattle.std.specs.Prelude.{ℕ, suc, max, List, [], ◌∷◌, Option, Some, None}
+use Rattle.semantics.specs.Trees.{Tree, some, list, structure, Trees, no_trees, tree}
+use Rattle.semantics.specs.Shapes.{Field, StructShape, Registry}
+use Rattle.semantics.specs.Typed.{option_at, list_at, object_at}
+
+abbrev pub of_part : {A : Type 0} → Option A → (A → ℕ) → ℕ
+of_part None f = 0
+of_part (Some x) f = f x
+
+-- one more than the greatest depth of the parts that are written, or 1 without parts
+abbrev mutual
+  pub depth : Registry → ℕ → Tree → ℕ
+  depth g s (some v) = suc (of_part (option_at g s) (λ i. depth g i v))
+  depth g s (list vs) = suc (of_part (list_at g s) (λ i. deepest g i vs))
+  depth g s (structure vs) = suc (of_part (object_at g s) (λ d. deepest_field g d.fields vs))
+  depth g s _ = 1
+
+  pub deepest : Registry → ℕ → Trees → ℕ
+  deepest g s no_trees = 0
+  deepest g s (tree v vs) = max (depth g s v) (deepest g s vs)
+
+  pub deepest_field : Registry → List Field → Trees → ℕ
+  deepest_field g (f ∷ fs) (tree v vs) = max (depth g f.shape v) (deepest_field g fs vs)
+  deepest_field g _ _ = 0

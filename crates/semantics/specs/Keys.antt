@@ -1,0 +1,108 @@
+-- The keys that the object of a struct may have, and where each leads.
+use Rattle.std.specs.Prelude.{ℕ, zero, suc, List, [], ◌∷◌, ◌++◌, map, Bool, true, false, cond, ◌&&◌, ◌||◌, not, length, Option, Some, None, option_map, bytes_eq, is_some, slice_get}
+use Rattle.std.specs.List.{list_any, cons_option}
+use Rattle.semantics.specs.Shapes.{Field, effective_name, Definition, Registry, definition_at}
+use Rattle.semantics.specs.Events.{Key, named, nameless, ordered}
+use Rattle.semantics.specs.Runs.{Entry}
+use Rattle.semantics.specs.Places.{Path, At, below, under, is_end, Choice}
+
+-- the text of a key, where it leads
+abbrev pub Declared : Type 0
+Declared = At (List ℕ)
+
+abbrev pub alias_key : ℕ → Option (List ℕ) → List Declared
+alias_key k None = []
+alias_key k (Some a) = record { path = k ∷ []; item = a } ∷ []
+
+-- a field's effective name, and then its alias
+abbrev pub own_keys : ℕ → Field → List Declared
+own_keys k f = record { path = k ∷ []; item = effective_name f } ∷ alias_key k f.alias
+
+-- The fields of an object. Where `whole` says so, a flattened field may also stand as a whole under its own name.
+pub record Layout : Type 0 where
+  pub fields : List Field
+  pub whole : Bool
+
+-- the keys of a flattened shape
+abbrev pub InnerKeys : Type 0
+InnerKeys = Option Definition → Choice → List Declared
+
+abbrev pub field_keys : Registry → InnerKeys → Bool → Choice → ℕ → Field → List Declared
+field_keys g inner whole c k f = cond f.flattened (cond whole (own_keys k f) [] ++ map (under k) (inner (definition_at g f.shape) (below k c))) (own_keys k f)
+
+-- the keys of these fields, the first of which has place k
+abbrev pub keys_by : Registry → InnerKeys → Bool → Choice → ℕ → List Field → List Declared
+keys_by g inner whole c k [] = []
+keys_by g inner whole c k (f ∷ fs) = field_keys g inner whole c k f ++ keys_by g inner whole c (suc k) fs
+
+-- Within so many layers. No shape can be flattened yet.
+abbrev pub flat_keys : Registry → ℕ → InnerKeys
+flat_keys g zero d c = []
+flat_keys g (suc n) d c = []
+
+abbrev pub keys : Registry → Layout → Choice → List Declared
+keys g l c = keys_by g (flat_keys g (length g)) l.whole c 0 l.fields
+
+-- where the first key of this text leads
+abbrev pub path_of : List Declared → List ℕ → Option Path
+path_of [] t = None
+path_of (x ∷ xs) t = cond (bytes_eq x.item t) (Some x.path) (path_of xs t)
+
+abbrev pub or_path : Option Path → Option Path → Option Path
+or_path (Some p) o = Some p
+or_path None o = o
+
+-- where the keys lead that nothing declares, in a flattened shape: to its map
+abbrev pub InnerStray : Type 0
+InnerStray = Option Definition → Choice → Option Path
+
+abbrev pub stray_by : Registry → InnerStray → Choice → ℕ → List Field → Option Path
+stray_by g inner c k [] = None
+stray_by g inner c k (f ∷ fs) = or_path (cond f.flattened (option_map (λ p. k ∷ p) (inner (definition_at g f.shape) (below k c))) None) (stray_by g inner c (suc k) fs)
+
+abbrev pub flat_stray : Registry → ℕ → InnerStray
+flat_stray g zero d c = None
+flat_stray g (suc n) d c = None
+
+-- where the keys of an object lead
+pub record Plan : Type 0 where
+  pub declared : List Declared
+  pub stray : Option Path
+  -- whether an unknown key is refused
+  pub deny : Bool
+
+abbrev pub plan_of : Registry → Choice → Bool → Layout → Plan
+plan_of g c deny l = record { declared = keys g l c; stray = stray_by g (flat_stray g (length g)) c 0 l.fields; deny = deny }
+
+-- where the key of an entry leads; k fields were named by their order before it
+abbrev pub leads : Plan → ℕ → Key → Option Path
+leads plan k (named t m n) = or_path (path_of plan.declared t.bytes) plan.stray
+leads plan k (nameless m n) = None
+leads plan k (ordered n) = Some (k ∷ [])
+
+abbrev pub after_key : ℕ → Key → ℕ
+after_key k (named t m n) = k
+after_key k (nameless m n) = k
+after_key k (ordered n) = suc k
+
+abbrev pub Placed : Type 0
+Placed = At Entry
+
+abbrev pub with_entry : Entry → Option Path → Option Placed
+with_entry e None = None
+with_entry e (Some p) = Some (record { path = p; item = e })
+
+-- the entries that lead somewhere, in order
+abbrev pub placed : Plan → ℕ → List Entry → List Placed
+placed plan k [] = []
+placed plan k (e ∷ es) = cons_option (with_entry e (leads plan k e.key)) (placed plan (after_key k e.key) es)
+
+-- A named key has to lead somewhere. Other keys aren't built yet, nor is the skipping of unknown ones.
+abbrev pub is_allowed : Plan → ℕ → Key → Bool
+is_allowed plan k (named t m n) = is_some (leads plan k (named t m n))
+is_allowed plan k (nameless m n) = false
+is_allowed plan k (ordered n) = false
+
+abbrev pub are_allowed : Plan → ℕ → List Entry → Bool
+are_allowed plan k [] = true
+are_allowed plan k (e ∷ es) = is_allowed plan k e.key && are_allowed plan (after_key k e.key) es

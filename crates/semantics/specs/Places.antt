@@ -1,0 +1,37 @@
+-- Things that stand at a path of fields.
+use Rattle.std.specs.Prelude.{ℕ, List, [], ◌∷◌, Bool, true, false, ◌||◌, Option, Some, None, cond, ◌==◌, filter_map}
+
+-- the places of the fields that lead to a part of a struct
+abbrev pub Path : Type 0
+Path = List ℕ
+
+pub record At (A : Type 0) : Type 0 where
+  pub path : Path
+  pub item : A
+
+abbrev pub rest_of : {A : Type 0} → ℕ → Path → A → Option (At A)
+rest_of k [] a = None
+rest_of k (j ∷ p) a = cond (j == k) (Some (record { path = p; item = a })) None
+
+abbrev pub rest_at : {A : Type 0} → ℕ → At A → Option (At A)
+rest_at k x = rest_of k x.path x.item
+
+-- what stands below the place k, by the rest of its path
+abbrev pub below : {A : Type 0} → ℕ → List (At A) → List (At A)
+below k xs = filter_map (rest_at k) xs
+
+abbrev pub under : {A : Type 0} → ℕ → At A → At A
+under k x = record { path = k ∷ x.path; item = x.item }
+
+abbrev pub is_end : Path → Bool
+is_end [] = true
+is_end (k ∷ p) = false
+
+-- something stands for the whole
+abbrev pub has_whole : {A : Type 0} → List (At A) → Bool
+has_whole [] = false
+has_whole (x ∷ xs) = is_end x.path || has_whole xs
+
+-- a variant for each flattened enum, by its path
+abbrev pub Choice : Type 0
+Choice = List (At ℕ)

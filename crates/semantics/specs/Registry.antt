@@ -1,0 +1,190 @@
+-- The checked registry: the rules that its shapes keep, each with the name of the fault where it is broken.
+use Rattle.std.specs.Prelude.{◌≡◌, ℕ, ◌<◌, ◌≤◌, ◌==◌, nat_lt, List, [], ◌∷◌, length, map, take, Bool, true, false, ◌||◌, ◌&&◌, not, if◌then◌else◌, Option, Some, None, option_and_then, is_some, slice_get, bytes_eq, IsTrue}
+use Rattle.std.specs.List.{list_any, list_all}
+use Rattle.std.specs.Str.{is_utf8}
+use Rattle.semantics.specs.Texts.{is_plain}
+use Rattle.semantics.specs.Shapes.{is_named, SkipRule, skip_never, Field, StructShape, Variant, EnumForm, external, internal, adjacent, Definition, scalar_shape, option_shape, result_shape, list_shape, array_shape, set_shape, map_shape, struct_shape, enum_shape, transparent_shape, Shape, Draft, Registry}
+use Rattle.semantics.specs.Scalars.{scalar_drafts, u64_number}
+
+-- The kinds of faults, in their order.
+pub data ShapeFaultKind : Type 0 where
+  undefined : ShapeFaultKind
+  repeated_shape_name : ShapeFaultKind
+  repeated_name : ShapeFaultKind
+  bad_default : ShapeFaultKind
+  bad_skip : ShapeFaultKind
+  bad_flatten : ShapeFaultKind
+  step_cycle : ShapeFaultKind
+  bad_container : ShapeFaultKind
+  bad_enum : ShapeFaultKind
+  too_many_choices : ShapeFaultKind
+  too_many : ShapeFaultKind
+  not_built : ShapeFaultKind
+
+-- a shape, by its number, and the rule that it breaks
+pub record ShapeFault : Type 0 where
+  pub shape : ℕ
+  pub kind : ShapeFaultKind
+
+abbrev pub shape_limit : ℕ
+shape_limit = 65535
+
+-- a test of the definition, where there is one
+abbrev pub on_definition : Option Definition → (Definition → Bool) → Bool
+on_definition None p = false
+on_definition (Some d) p = p d
+
+-- a test of the fields of a struct, and of those of each variant of an enum
+abbrev pub on_fields : (List Field → Bool) → Definition → Bool
+on_fields p (struct_shape s) = p s.fields
+on_fields p (enum_shape form vs) = list_any (λ v. p v.fields) vs
+on_fields p _ = false
+
+-- a test of some pair, the earlier one first
+abbrev pub has_pair : {A : Type 0} → (A → A → Bool) → List A → Bool
+has_pair p [] = false
+has_pair p (x ∷ xs) = list_any (p x) xs || has_pair p xs
+
+-- Undefined: there is no definition, or it refers to a number that isn't there.
+abbrev pub is_missing : ℕ → ℕ → Bool
+is_missing count s = not (nat_lt s count)
+
+abbrev pub dangles : ℕ → Definition → Bool
+dangles count (scalar_shape type) = false
+dangles count (option_shape s) = is_missing count s
+dangles count (result_shape s t) = is_missing count s || is_missing count t
+dangles count (list_shape s) = is_missing count s
+dangles count (array_shape s len) = is_missing count s
+dangles count (set_shape s) = is_missing count s
+dangles count (map_shape s t) = is_missing count s || is_missing count t
+dangles count (struct_shape s) = list_any (λ f. is_missing count f.shape) s.fields
+dangles count (enum_shape form vs) = list_any (λ v. list_any (λ f. is_missing count f.shape) v.fields) vs
+dangles count (transparent_shape s) = is_missing count s
+
+abbrev pub is_undefined : ℕ → Option Definition → Bool
+is_undefined count None = true
+is_undefined count (Some d) = dangles count d
+
+-- RepeatedShapeName: an earlier shape has this name.
+abbrev pub repeats_shape_name : List Draft → ℕ → Draft → Bool
+repeats_shape_name ds i d = list_any (λ e. bytes_eq e.name d.name) (take i ds)
+
+-- RepeatedName: two fields of one struct or variant have one name, or two variants of one enum.
+abbrev pub repeats_field : List Field → Bool
+repeats_field fs = has_pair (λ f e. bytes_eq f.name e.name) fs
+
+abbrev pub repeats_variant : Definition → Bool
+repeats_variant (enum_shape form vs) = has_pair (λ v w. bytes_eq v.name w.name) vs
+repeats_variant _ = false
+
+abbrev pub repeats_name : Definition → Bool
+repeats_name d = on_fields repeats_field d || repeats_variant d
+
+-- TooMany: more than 65,535 fields of one struct or variant, or variants of one enum.
+abbrev pub is_long : {A : Type 0} → List A → Bool
+is_long xs = nat_lt shape_limit (length xs)
+
+abbrev pub has_many_variants : Definition → Bool
+has_many_variants (enum_shape form vs) = is_long vs
+has_many_variants _ = false
+
+abbrev pub has_too_many : Definition → Bool
+has_too_many d = on_fields is_long d || has_many_variants d
+
+-- NotBuilt: a form that isn't built yet. Built are the scalars, and a named struct with no attribute, each of
+-- whose fields has no attribute, the shape u64, and a name with no backslash, quote or line feed.
+abbrev pub never_skips : SkipRule → Bool
+never_skips skip_never = true
+never_skips _ = false
+
+abbrev pub has_attribute : Field → Bool
+has_attribute f = is_some f.rename || (is_some f.alias || (is_some f.default || (not (never_skips f.skip) || (f.flattened || (is_some f.metadata || is_some f.proxy)))))
+
+abbrev pub is_unbuilt_field : Field → Bool
+is_unbuilt_field f = has_attribute f || (not (f.shape == u64_number) || not (is_plain f.name))
+
+abbrev pub is_unbuilt_struct : StructShape → Bool
+is_unbuilt_struct s = not (is_named s.kind) || (s.deny || (is_some s.default || (s.container || list_any is_unbuilt_field s.fields)))
+
+abbrev pub is_unbuilt : Definition → Bool
+is_unbuilt (scalar_shape type) = false
+is_unbuilt (struct_shape s) = is_unbuilt_struct s
+is_unbuilt _ = true
+
+abbrev pub is_not_built : Draft → Bool
+is_not_built d = is_some d.proxy || on_definition d.definition is_unbuilt
+
+-- The first fault of the list that holds.
+pub record Rule : Type 0 where
+  pub kind : ShapeFaultKind
+  pub broken : Bool
+
+abbrev pub rule : ShapeFaultKind → Bool → Rule
+rule kind broken = record { kind = kind; broken = broken }
+
+abbrev pub first_broken : List Rule → Option ShapeFaultKind
+first_broken [] = None
+first_broken (r ∷ rs) = if r.broken then Some r.kind else first_broken rs
+
+-- the rules in their order, for the shape of number i
+abbrev pub rules_of : List Draft → ℕ → Draft → List Rule
+rules_of ds i d =
+    rule undefined (is_undefined (length ds) d.definition)
+    ∷ rule repeated_shape_name (repeats_shape_name ds i d)
+    ∷ rule repeated_name (on_definition d.definition repeats_name)
+    ∷ rule too_many (on_definition d.definition has_too_many)
+    ∷ []
+
+-- a shape that uses a form that isn't built has that fault alone
+abbrev pub fault_of : List Draft → ℕ → Draft → Option ShapeFaultKind
+fault_of ds i d = if is_not_built d then Some not_built else first_broken (rules_of ds i d)
+
+abbrev pub fault_at : List Draft → ℕ → Option ShapeFaultKind
+fault_at ds i = option_and_then (fault_of ds i) (slice_get ds i)
+
+abbrev pub NoFaultBelow : List Draft → ℕ → Type 0
+NoFaultBelow ds n = (i : ℕ) → i < n → fault_at ds i ≡ None
+
+-- no shape breaks a rule
+abbrev pub NoFault : List Draft → Type 0
+NoFault ds = NoFaultBelow ds (length ds)
+
+-- the least shape with a fault, and the least of its faults
+pub record IsFirstFault (ds : List Draft) (f : ShapeFault) : Type 0 where
+  pub before : NoFaultBelow ds f.shape
+  pub here : fault_at ds f.shape ≡ Some f.kind
+
+-- Names are texts, and so are UTF-8.
+abbrev pub name_is_utf8 : Option (List ℕ) → Bool
+name_is_utf8 None = true
+name_is_utf8 (Some name) = is_utf8 name
+
+abbrev pub field_is_utf8 : Field → Bool
+field_is_utf8 f = is_utf8 f.name && (name_is_utf8 f.rename && name_is_utf8 f.alias)
+
+abbrev pub variant_is_utf8 : Variant → Bool
+variant_is_utf8 v = is_utf8 v.name && (name_is_utf8 v.rename && list_all field_is_utf8 v.fields)
+
+abbrev pub form_is_utf8 : EnumForm → Bool
+form_is_utf8 (internal tag by) = is_utf8 tag
+form_is_utf8 (adjacent tag content by) = is_utf8 tag && is_utf8 content
+form_is_utf8 _ = true
+
+abbrev pub definition_is_utf8 : Definition → Bool
+definition_is_utf8 (struct_shape s) = list_all field_is_utf8 s.fields
+definition_is_utf8 (enum_shape form vs) = form_is_utf8 form && list_all variant_is_utf8 vs
+definition_is_utf8 _ = true
+
+abbrev pub shape_is_utf8 : Shape → Bool
+shape_is_utf8 s = is_utf8 s.name && definition_is_utf8 s.definition
+
+-- the shape as a draft whose definition is there
+abbrev pub drafted : Shape → Draft
+drafted s = record { name = s.name; definition = Some s.definition; proxy = s.proxy }
+
+-- A checked registry: it begins with the scalars, keeps each rule, and its names are texts.
+pub record IsRegistry (g : Registry) : Type 0 where
+  pub scalars : take 17 (map drafted g) ≡ scalar_drafts
+  pub few : length g ≤ shape_limit
+  pub sound : NoFault (map drafted g)
+  pub utf8 : IsTrue (list_all shape_is_utf8 g)

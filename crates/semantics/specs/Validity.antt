@@ -1,0 +1,91 @@
+-- Which shapes and values are read back as they were written.
+use Rattle.std.specs.Prelude.{◌≡◌, ℕ, ◌≤◌, List, [], ◌∷◌, Bool, true, false, Option, Some, None, option_map, Ok, Contains, IsTrue}
+use Rattle.semantics.specs.Texts.{Phrase}
+use Rattle.semantics.specs.Trees.{Tree, text, none, some, list, structure, Trees, no_trees, tree}
+use Rattle.semantics.specs.Shapes.{ScalarType, str_type, SkipRule, skip_never, skip_always, skip_none, skip_empty, skip_default, Field, StructShape, Definition, scalar_shape, option_shape, list_shape, struct_shape, transparent_shape, Registry, definition_at}
+use Rattle.semantics.specs.Events.{Event}
+use Rattle.semantics.specs.Documents.{Document, Permuted}
+use Rattle.semantics.specs.Typed.{typed, tree_is_utf8, option_at, list_at, object_at}
+use Rattle.semantics.specs.Writing.{write}
+use Rattle.semantics.specs.Places.{Choice}
+use Rattle.semantics.specs.Keys.{Declared, path_of, keys}
+use Rattle.semantics.specs.Reading.{fill, plain_layout}
+use Rattle.semantics.specs.Depths.{depth}
+
+-- the shapes that a definition refers to
+abbrev pub field_shapes : List Field → List ℕ
+field_shapes [] = []
+field_shapes (f ∷ fs) = f.shape ∷ field_shapes fs
+
+abbrev pub part_shapes : Definition → List ℕ
+part_shapes (option_shape s) = s ∷ []
+part_shapes (list_shape s) = s ∷ []
+part_shapes (struct_shape s) = field_shapes s.fields
+part_shapes (transparent_shape s) = s ∷ []
+part_shapes _ = []
+
+abbrev pub parts_at : Option Definition → List ℕ
+parts_at None = []
+parts_at (Some d) = part_shapes d
+
+-- t is a part of s
+abbrev pub IsPart : Registry → ℕ → ℕ → Type 0
+IsPart g s t = Contains (parts_at (definition_at g s)) t
+
+-- from s one comes to t by these parts
+abbrev pub Leads : Registry → ℕ → List ℕ → ℕ → Type 0
+Leads g s [] t = t ≡ s
+Leads g s (u ∷ us) t = IsPart g s u × Leads g u us t
+
+-- t is the root or a part of what is reached
+abbrev pub Reached : Registry → ℕ → ℕ → Type 0
+Reached g root t = (us : List ℕ) × Leads g root us t
+
+-- no two keys have one text
+abbrev pub Distinct : List Declared → Type 0
+Distinct [] = Unit {0}
+Distinct (x ∷ xs) = (path_of xs x.item ≡ None) × Distinct xs
+
+-- what a definition has to keep, that its values can be read back: no key twice under any choice of variants, and
+-- no text that has to be borrowed
+abbrev pub HasNoClash : Registry → Definition → Type 0
+HasNoClash g (struct_shape s) = (c : Choice) → Distinct (keys g (plain_layout s) c)
+HasNoClash g (scalar_shape str_type) = ⊥
+HasNoClash g _ = Unit {0}
+
+abbrev pub IsApart : Registry → Option Definition → Type 0
+IsApart g None = Unit {0}
+IsApart g (Some d) = HasNoClash g d
+
+-- no shape that is reached from the root has a clash
+abbrev pub Separable : Registry → ℕ → Type 0
+Separable g root = (s : ℕ) → Reached g root s → IsApart g (definition_at g s)
+
+-- A value is clean where each field that is never written holds its fill. No field is left out yet.
+abbrev pub Clean : Registry → ℕ → Tree → Type 0
+Clean g root v = Unit {0}
+
+-- the same text, borrowed or not
+abbrev pub AlikeText : Phrase → Tree → Type 0
+AlikeText t w = (u : Phrase) × (w ≡ text u) × (u.bytes ≡ t.bytes)
+
+abbrev pub OnPart : {A : Type 0} → Option A → (A → Type 0) → Type 0
+OnPart None P = ⊥
+OnPart (Some x) P = P x
+
+-- One value, but for metadata, for what is borrowed, and for which variant of a cow enum stands.
+abbrev mutual
+  pub Alike : Registry → ℕ → Tree → Tree → Type 0
+  Alike g s (text t) w = AlikeText t w
+  Alike g s (some v) w = OnPart (option_at g s) (λ i. (w' : Tree) × (w ≡ some w') × Alike g i v w')
+  Alike g s (list vs) w = OnPart (list_at g s) (λ i. (ws : Trees) × (w ≡ list ws) × EachAlike g i vs ws)
+  Alike g s (structure vs) w = OnPart (object_at g s) (λ d. (ws : Trees) × (w ≡ structure ws) × FieldsAlike g d.fields vs ws)
+  Alike g s v w = w ≡ v
+
+  pub EachAlike : Registry → ℕ → Trees → Trees → Type 0
+  EachAlike g s no_trees ws = ws ≡ no_trees
+  EachAlike g s (tree v vs) ws = (w : Tree) × (ws' : Trees) × (ws ≡ tree w ws') × Alike g s v w × EachAlike g s vs ws'
+
+  pub FieldsAlike : Registry → List Field → Trees → Trees → Type 0
+  FieldsAlike g (f ∷ fs) (tree v vs) ws = (w : Tree) × (ws' : Trees) × (ws ≡ tree w ws') × Alike g f.shape v w × FieldsAlike g fs vs ws'
+  FieldsAlike g _ vs ws = ws ≡ vs
