@@ -1,0 +1,148 @@
+ghost use Rattle.std.specs.Prelude.{◌≡◌, ◌<◌, ◌≤◌, [], ◌∷◌, ◌++◌, map, length, slice_get, slice_set, IfOk, IfErr, IfSome, OnOk, OnErr};
+ghost use Rattle.std.specs.List.{filter_map};
+ghost use Rattle.semantics.specs.Scalars.{scalar_drafts};
+ghost use Rattle.semantics.specs.Registry.{shape_limit, NoFault, drafted};
+ghost use Rattle.shape_core.specs.Builder.{named, redefined, finished, IsNameFault, IsCheckFault};
+ghost use Rattle.shape_core.specs.Shapes.{definition_of, draft_of, drafts_of, registry};
+
+use crate::check::first_fault;
+use crate::definition::Def;
+use crate::draft::Draft;
+use crate::fault::{CheckFault, NameFault};
+use crate::items::Items;
+use crate::memory::OutOfMemory;
+use crate::name::Name;
+use crate::rules::LIMIT;
+use crate::scalar::ScalarType;
+use crate::shape::{Shape, ShapeId};
+use crate::shapes::Shapes;
+use crate::utf8::drafts_utf8;
+use std::alloc::Global;
+use std::marker::Model;
+
+/// Shapes that are being named and defined, by their numbers. The first seventeen are the scalars.
+#[derive(Drop)]
+pub struct ShapesBuilder {
+    alloc: Global,
+    drafts: Vec<Draft>,
+}
+
+impl Model for ShapesBuilder {
+    ghost use Rattle.std.specs.Prelude.{List};
+    ghost use Rattle.std.specs.Coded.{coded_list};
+    ghost use Rattle.shape_core.specs.declared.draft.Draft.{Draft};
+    ghost use Rattle.shape_core.specs.contracts.draft.Draft.{the_row};
+    ghost use Rattle.shape_core.specs.Builder.{IsDraftList};
+
+    ghost Value = { List Draft };
+
+    ghost coded = { coded_list the_row.coded };
+
+    ghost view = { λ b. b.drafts.items };
+
+    ghost invariant = { λ b. IsDraftList b.drafts.items };
+}
+
+impl ShapesBuilder {
+    /// A builder that holds the scalars, in the order of [`ScalarType::ALL`].
+    pub fn new(alloc: Global) -> Result<ShapesBuilder, OutOfMemory>
+        ensures { IfOk result (λ builder. drafts_of builder ≡ scalar_drafts) }
+    {
+        let drafts = scalar_drafts(alloc)?;
+        Ok(ShapesBuilder { alloc, drafts })
+    }
+
+    /// Gives the next number to a shape of this name, which is still to be defined.
+    ///
+    /// `TooMany` comes where 65,535 shapes are there. A refusal changes nothing.
+    pub fn name(&mut self, name: &str) -> Result<ShapeId, NameFault>
+        ensures number { IfOk result (λ id. id.0 ≡ length (drafts_of self.old)) }
+        ensures free { IfOk result (λ id. 17 ≤ id.0) }
+        ensures added { IfOk result (λ id. drafts_of self.new ≡ drafts_of self.old ++ named name.now ∷ []) }
+        ensures room { IfOk result (λ id. length (drafts_of self.old) < shape_limit) }
+        ensures cause { IfErr result (λ fault. IsNameFault (drafts_of self.old) fault) }
+        ensures unchanged { OnErr result (self.new ≡ self.old) }
+    {
+        let count = self.drafts.len();
+        if count >= LIMIT {
+            return Err(NameFault::TooMany);
+        }
+        let name = Name::copy(self.alloc, name)?;
+        let draft = Draft {
+            name,
+            def: None,
+            proxy: None,
+        };
+        push_draft(&mut self.drafts, draft)?;
+        Ok(ShapeId(count as u32))
+    }
+
+    /// Says what a named shape is made of, in place of what was said before. It takes no memory.
+    pub fn define(&mut self, id: ShapeId, def: Def)
+        requires scalars { 17 ≤ id.0 }
+        requires named { id.0 < length (drafts_of self.old) }
+        ensures { IfSome (slice_get (drafts_of self.old) id.0) (λ draft. drafts_of self.new ≡ slice_set (drafts_of self.old) id.0 (redefined draft (definition_of def))) }
+    {
+        redefine(&mut self.drafts[id.0 as usize], def);
+    }
+
+    /// The registry of these shapes.
+    ///
+    /// Where a rule is broken, `Fault` names the least such shape and the first of the rules that it breaks.
+    pub fn check(self, alloc: Global) -> Result<Shapes, CheckFault>
+        ensures sound { IfOk result (λ shapes. NoFault (drafts_of self)) }
+        ensures shapes { IfOk result (λ shapes. map drafted (registry shapes) ≡ drafts_of self) }
+        ensures cause { IfErr result (λ fault. IsCheckFault (drafts_of self) fault) }
+    {
+        let ShapesBuilder { alloc: _, drafts } = self;
+        if let Some(fault) = first_fault(&drafts) {
+            return Err(CheckFault::Fault(fault));
+        }
+        drafts_utf8(&drafts);
+        let shapes = finished(alloc, drafts)?;
+        Ok(Shapes::from_items(shapes))
+    }
+}
+
+fn scalar_drafts(alloc: Global) -> Result<Vec<Draft>, OutOfMemory>
+    ensures { IfOk result (λ drafts. drafts_of drafts.items ≡ scalar_drafts) }
+{
+    let mut drafts = Vec::new(alloc);
+    for scalar in ScalarType::ALL.iter() {
+        let name = Name::copy(alloc, scalar.name())?;
+        drafts.push(Draft {
+            name,
+            def: Some(Def::Scalar(*scalar)),
+            proxy: None,
+        })?;
+    }
+    Ok(drafts)
+}
+
+fn push_draft(drafts: &mut Vec<Draft>, draft: Draft) -> Result<(), OutOfMemory>
+    ensures ok { OnOk result (drafts.new.items ≡ drafts.old.items ++ draft ∷ []) }
+    ensures err { OnErr result (drafts.new.items ≡ drafts.old.items) }
+{
+    drafts.push(draft)?;
+    Ok(())
+}
+
+fn redefine(draft: &mut Draft, def: Def)
+    ensures { draft_of draft.new ≡ redefined (draft_of draft.old) (definition_of def) }
+{
+    draft.def = Some(def);
+}
+
+/// The shapes that are defined.
+fn finished(alloc: Global, drafts: Vec<Draft>) -> Result<Items<Shape>, OutOfMemory>
+    ensures { IfOk result (λ shapes. registry shapes ≡ filter_map finished (drafts_of drafts.items)) }
+{
+    let mut shapes = Items::new(alloc);
+    for draft in drafts {
+        let Draft { name, def, proxy } = draft;
+        if let Some(def) = def {
+            shapes.push(Shape { name, def, proxy })?;
+        }
+    }
+    Ok(shapes)
+}

@@ -1,0 +1,140 @@
+//! Copies of values.
+ghost use Rattle.std.specs.Prelude.{◌≡◌, map, IfOk};
+ghost use Rattle.shape_core.specs.Trees.{tree_of, entry_of, owned_tree_of, owned_entry_of};
+
+use crate::boxed::Boxed;
+use crate::items::Items;
+use crate::memory::OutOfMemory;
+use crate::value::{Pair, Value};
+use std::alloc::Global;
+
+impl<'de> Value<'de> {
+    /// An equal value, whose texts are borrowed where those of this one are.
+    #[cycle(copy)]
+    pub fn try_clone(&self, alloc: Global) -> Result<Value<'de>, OutOfMemory>
+        ensures { IfOk result (λ v. tree_of v ≡ tree_of self.now) }
+    {
+        match self {
+            Value::Unit => Ok(Value::Unit),
+            Value::Bool(b) => Ok(Value::Bool(*b)),
+            Value::Char(c) => Ok(Value::Char(*c)),
+            Value::Unsigned(n) => Ok(Value::Unsigned(*n)),
+            Value::Signed(n) => Ok(Value::Signed(*n)),
+            Value::Text(text) => Ok(Value::Text(text.try_clone(alloc)?)),
+            Value::None => Ok(Value::None),
+            Value::Some(inner) => Ok(Value::Some(copy_boxed(inner, alloc)?)),
+            Value::Ok(inner) => Ok(Value::Ok(copy_boxed(inner, alloc)?)),
+            Value::Err(inner) => Ok(Value::Err(copy_boxed(inner, alloc)?)),
+            Value::List(items) => Ok(Value::List(copy_items(items, alloc)?)),
+            Value::Map(pairs) => Ok(Value::Map(copy_pairs(pairs, alloc)?)),
+            Value::Struct(fields) => Ok(Value::Struct(copy_items(fields, alloc)?)),
+            Value::Enum { variant, fields } => Ok(Value::Enum {
+                variant: *variant,
+                fields: copy_items(fields, alloc)?,
+            }),
+        }
+    }
+
+    /// An equal value whose texts are all owned, so that it outlives the input.
+    pub fn to_static(&self, alloc: Global) -> Result<Value<'static>, OutOfMemory>
+        ensures { IfOk result (λ v. tree_of v ≡ owned_tree_of self.now) }
+    {
+        self.to_owned(alloc)
+    }
+
+    /// As [`Value::to_static`], for whichever lifetime is wanted.
+    #[cycle(own)]
+    pub fn to_owned<'a>(&self, alloc: Global) -> Result<Value<'a>, OutOfMemory>
+        ensures { IfOk result (λ v. tree_of v ≡ owned_tree_of self.now) }
+    {
+        match self {
+            Value::Unit => Ok(Value::Unit),
+            Value::Bool(b) => Ok(Value::Bool(*b)),
+            Value::Char(c) => Ok(Value::Char(*c)),
+            Value::Unsigned(n) => Ok(Value::Unsigned(*n)),
+            Value::Signed(n) => Ok(Value::Signed(*n)),
+            Value::Text(text) => Ok(Value::Text(text.to_owned(alloc)?)),
+            Value::None => Ok(Value::None),
+            Value::Some(inner) => Ok(Value::Some(own_boxed(inner, alloc)?)),
+            Value::Ok(inner) => Ok(Value::Ok(own_boxed(inner, alloc)?)),
+            Value::Err(inner) => Ok(Value::Err(own_boxed(inner, alloc)?)),
+            Value::List(items) => Ok(Value::List(own_items(items, alloc)?)),
+            Value::Map(pairs) => Ok(Value::Map(own_pairs(pairs, alloc)?)),
+            Value::Struct(fields) => Ok(Value::Struct(own_items(fields, alloc)?)),
+            Value::Enum { variant, fields } => Ok(Value::Enum {
+                variant: *variant,
+                fields: own_items(fields, alloc)?,
+            }),
+        }
+    }
+}
+
+#[cycle(copy)]
+fn copy_boxed<'de>(
+    inner: &Boxed<Value<'de>>,
+    alloc: Global,
+) -> Result<Boxed<Value<'de>>, OutOfMemory>
+    ensures { IfOk result (λ v. tree_of v ≡ tree_of inner.now) }
+{
+    let value = inner.get().try_clone(alloc)?;
+    Boxed::new(alloc, value)
+}
+
+#[cycle(copy)]
+fn copy_items<'de>(
+    items: &Items<Value<'de>>,
+    alloc: Global,
+) -> Result<Items<Value<'de>>, OutOfMemory>
+    ensures { IfOk result (λ vs. map tree_of vs ≡ map tree_of items.now) }
+{
+    let mut copies = Items::new(alloc);
+    for item in items.as_slice() {
+        copies.push(item.try_clone(alloc)?)?;
+    }
+    Ok(copies)
+}
+
+#[cycle(copy)]
+fn copy_pairs<'de>(pairs: &Items<Pair<'de>>, alloc: Global) -> Result<Items<Pair<'de>>, OutOfMemory>
+    ensures { IfOk result (λ ps. map entry_of ps ≡ map entry_of pairs.now) }
+{
+    let mut copies = Items::new(alloc);
+    for pair in pairs.as_slice() {
+        let key = pair.key.try_clone(alloc)?;
+        let value = pair.value.try_clone(alloc)?;
+        copies.push(Pair { key, value })?;
+    }
+    Ok(copies)
+}
+
+#[cycle(own)]
+fn own_boxed<'a>(inner: &Boxed<Value<'_>>, alloc: Global) -> Result<Boxed<Value<'a>>, OutOfMemory>
+    ensures { IfOk result (λ v. tree_of v ≡ owned_tree_of inner.now) }
+{
+    let value = inner.get().to_owned(alloc)?;
+    Boxed::new(alloc, value)
+}
+
+#[cycle(own)]
+fn own_items<'a>(items: &Items<Value<'_>>, alloc: Global) -> Result<Items<Value<'a>>, OutOfMemory>
+    ensures { IfOk result (λ vs. map tree_of vs ≡ map owned_tree_of items.now) }
+{
+    let mut copies = Items::new(alloc);
+    for item in items.as_slice() {
+        copies.push(item.to_owned(alloc)?)?;
+    }
+    Ok(copies)
+}
+
+#[cycle(own)]
+fn own_pairs<'a>(pairs: &Items<Pair<'_>>, alloc: Global) -> Result<Items<Pair<'a>>, OutOfMemory>
+    ensures { IfOk result (λ ps. map entry_of ps ≡ map owned_entry_of pairs.now) }
+{
+    let mut copies = Items::new(alloc);
+    for pair in pairs.as_slice() {
+        let key = pair.key.to_owned(alloc)?;
+        let value = pair.value.to_owned(alloc)?;
+        copies.push(Pair { key, value })?;
+    }
+    Ok(copies)
+}

@@ -1,0 +1,206 @@
+//! The rules that a registry keeps, one function a rule.
+ghost use Rattle.std.specs.Prelude.{◌≡◌, ◌≤◌, length, map, take, option_map, bytes_eq};
+ghost use Rattle.std.specs.List.{list_any};
+ghost use Rattle.semantics.specs.Registry.{on_definition, on_fields, has_pair, is_missing, dangles, is_undefined, repeats_shape_name, repeats_field, repeats_variant, repeats_name, is_long, has_many_variants, has_too_many};
+ghost use Rattle.shape_core.specs.Shapes.{field_of, variant_of, definition_of, draft_of, drafts_of};
+
+use crate::definition::Def;
+use crate::draft::Draft;
+use crate::enums::Variant;
+use crate::field::Field;
+use crate::shape::ShapeId;
+
+/// The most shapes of a registry, fields of a struct or variant, and variants of an enum.
+pub const LIMIT: usize = 65535;
+
+fn is_missing(count: usize, id: ShapeId) -> bool
+    ensures { result ≡ is_missing count id.0 }
+{
+    id.0 as usize >= count
+}
+
+fn fields_dangle(count: usize, fields: &[Field]) -> bool
+    ensures { result ≡ list_any (λ f. is_missing count (field_of f).shape) fields.now }
+{
+    fields.iter().any(|field| is_missing(count, field.shape))
+}
+
+#[tactic(auto, using(crate::proofs::Lists::list_any_map))]
+fn variant_dangles(count: usize, variant: &Variant) -> bool
+    ensures { result ≡ list_any (λ f. is_missing count f.shape) (variant_of variant.now).fields }
+{
+    fields_dangle(count, variant.fields.as_slice())
+}
+
+fn variants_dangle(count: usize, variants: &[Variant]) -> bool
+    ensures { result ≡ list_any (λ v. list_any (λ f. is_missing count f.shape) (variant_of v).fields) variants.now }
+{
+    variants
+        .iter()
+        .any(|variant| variant_dangles(count, variant))
+}
+
+#[tactic(auto, using(crate::proofs::Lists::list_any_map))]
+fn dangles(count: usize, def: &Def) -> bool
+    ensures { result ≡ dangles count (definition_of def.now) }
+{
+    match def {
+        Def::Scalar(_) => false,
+        Def::Option(id) => is_missing(count, *id),
+        Def::Result { ok, err } => is_missing(count, *ok) || is_missing(count, *err),
+        Def::List(id) => is_missing(count, *id),
+        Def::Array { item, .. } => is_missing(count, *item),
+        Def::Set(id) => is_missing(count, *id),
+        Def::Map { key, value } => is_missing(count, *key) || is_missing(count, *value),
+        Def::Struct(def) => fields_dangle(count, def.fields.as_slice()),
+        Def::Enum(def) => variants_dangle(count, def.variants.as_slice()),
+        Def::Transparent(id) => is_missing(count, *id),
+    }
+}
+
+/// There is no definition, or it refers to a number that isn't there.
+pub fn is_undefined(count: usize, def: &Option<Def>) -> bool
+    ensures { result ≡ is_undefined count (option_map definition_of def.now) }
+{
+    match def {
+        None => true,
+        Some(def) => dangles(count, def),
+    }
+}
+
+fn has_shape_name(drafts: &[Draft], draft: &Draft) -> bool
+    ensures { result ≡ list_any (λ e. bytes_eq e.name draft.now.name) drafts.now }
+{
+    drafts.iter().any(|other| other.name == draft.name)
+}
+
+/// One of the first `at` shapes has the name of this one.
+#[tactic(auto, using(crate::proofs::Lists::list_any_map, crate::proofs::Lists::take_map))]
+pub fn repeats_shape_name(drafts: &[Draft], at: usize, draft: &Draft) -> bool
+    requires { at ≤ length drafts.now }
+    ensures { result ≡ repeats_shape_name (drafts_of drafts.now) at (draft_of draft.now) }
+{
+    has_shape_name(&drafts[..at], draft)
+}
+
+fn has_field_name(field: &Field, others: &[Field]) -> bool
+    ensures { result ≡ list_any (λ e. bytes_eq field.now.name e.name) others.now }
+{
+    others.iter().any(|other| field.name == other.name)
+}
+
+#[tactic(auto, using(crate::proofs::Lists::list_any_map))]
+fn repeats_field(fields: &[Field]) -> bool
+    ensures { result ≡ repeats_field (map field_of fields.now) }
+{
+    let mut left = fields;
+    while let Some((first, rest)) = left.split_first() {
+        if has_field_name(first, rest) {
+            return true;
+        }
+        left = rest;
+    }
+    false
+}
+
+fn variants_repeat_field(variants: &[Variant]) -> bool
+    ensures { result ≡ list_any (λ v. repeats_field (variant_of v).fields) variants.now }
+{
+    variants
+        .iter()
+        .any(|variant| repeats_field(variant.fields.as_slice()))
+}
+
+fn has_variant_name(variant: &Variant, others: &[Variant]) -> bool
+    ensures { result ≡ list_any (λ w. bytes_eq variant.now.name w.name) others.now }
+{
+    others.iter().any(|other| variant.name == other.name)
+}
+
+#[tactic(auto, using(crate::proofs::Lists::list_any_map))]
+fn variants_repeat(variants: &[Variant]) -> bool
+    ensures { result ≡ has_pair (λ v w. bytes_eq v.name w.name) (map variant_of variants.now) }
+{
+    let mut left = variants;
+    while let Some((first, rest)) = left.split_first() {
+        if has_variant_name(first, rest) {
+            return true;
+        }
+        left = rest;
+    }
+    false
+}
+
+#[tactic(auto, using(crate::proofs::Lists::list_any_map))]
+fn some_repeat_field(def: &Def) -> bool
+    ensures { result ≡ on_fields repeats_field (definition_of def.now) }
+{
+    match def {
+        Def::Struct(def) => repeats_field(def.fields.as_slice()),
+        Def::Enum(def) => variants_repeat_field(def.variants.as_slice()),
+        _ => false,
+    }
+}
+
+fn repeats_variant(def: &Def) -> bool
+    ensures { result ≡ repeats_variant (definition_of def.now) }
+{
+    match def {
+        Def::Enum(def) => variants_repeat(def.variants.as_slice()),
+        _ => false,
+    }
+}
+
+/// Two fields of one struct or variant have one name, or two variants of one enum.
+pub fn repeats_name(def: &Option<Def>) -> bool
+    ensures { result ≡ on_definition (option_map definition_of def.now) repeats_name }
+{
+    match def {
+        None => false,
+        Some(def) => some_repeat_field(def) || repeats_variant(def),
+    }
+}
+
+fn is_long(fields: &[Field]) -> bool
+    ensures { result ≡ is_long (map field_of fields.now) }
+{
+    fields.len() > LIMIT
+}
+
+fn variants_are_long(variants: &[Variant]) -> bool
+    ensures { result ≡ list_any (λ v. is_long (variant_of v).fields) variants.now }
+{
+    variants
+        .iter()
+        .any(|variant| is_long(variant.fields.as_slice()))
+}
+
+#[tactic(auto, using(crate::proofs::Lists::list_any_map))]
+fn has_many_fields(def: &Def) -> bool
+    ensures { result ≡ on_fields is_long (definition_of def.now) }
+{
+    match def {
+        Def::Struct(def) => is_long(def.fields.as_slice()),
+        Def::Enum(def) => variants_are_long(def.variants.as_slice()),
+        _ => false,
+    }
+}
+
+fn has_many_variants(def: &Def) -> bool
+    ensures { result ≡ has_many_variants (definition_of def.now) }
+{
+    match def {
+        Def::Enum(def) => def.variants.len() > LIMIT,
+        _ => false,
+    }
+}
+
+/// There are more fields of one struct or variant, or variants of one enum, than there may be.
+pub fn has_too_many(def: &Option<Def>) -> bool
+    ensures { result ≡ on_definition (option_map definition_of def.now) has_too_many }
+{
+    match def {
+        None => false,
+        Some(def) => has_many_fields(def) || has_many_variants(def),
+    }
+}

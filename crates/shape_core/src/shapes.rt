@@ -1,0 +1,88 @@
+ghost use Rattle.std.specs.Prelude.{◌≡◌, length, nat_lt, slice_get, option_map, bytes_eq};
+ghost use Rattle.std.specs.List.{position};
+ghost use Rattle.std.specs.Option.{option_copied};
+ghost use Rattle.semantics.specs.Registry.{IsRegistry};
+ghost use Rattle.shape_core.specs.Shapes.{shape_of, registry};
+
+use crate::items::Items;
+use crate::shape::{Shape, ShapeId};
+use std::marker::Model;
+
+/// A checked registry: shapes by their numbers, which keep every rule of [`crate::ShapeFaultKind`].
+///
+/// The first seventeen are the scalars, in the order of [`crate::ScalarType::ALL`].
+#[derive(Drop)]
+pub struct Shapes {
+    shapes: Items<Shape>,
+}
+
+impl Model for Shapes {
+    ghost use Rattle.std.specs.Prelude.{List};
+    ghost use Rattle.std.specs.Coded.{coded_list};
+    ghost use Rattle.shape_core.specs.declared.shape.Shape.{Shape};
+    ghost use Rattle.shape_core.specs.contracts.shape.Shape.{the_row};
+    ghost use Rattle.semantics.specs.Registry.{IsRegistry};
+    ghost use Rattle.shape_core.specs.Shapes.{registry};
+
+    ghost Value = { List Shape };
+
+    ghost coded = { coded_list the_row.coded };
+
+    ghost view = { λ s. s.shapes };
+
+    ghost invariant = { λ s. IsRegistry (registry s.shapes) };
+}
+
+impl Shapes {
+    /// The shapes of a registry that keeps every rule.
+    pub(crate) fn from_items(shapes: Items<Shape>) -> Shapes
+        requires { IsRegistry (registry shapes) }
+        ensures { result ≡ shapes }
+    {
+        Shapes { shapes }
+    }
+
+    /// The shape of this number. None where there is no such shape.
+    pub fn get(&self, id: ShapeId) -> Option<&Shape>
+        ensures declared { option_copied result ≡ slice_get self.now id.0 }
+        ensures shape { option_map shape_of (option_copied result) ≡ slice_get (registry self.now) id.0 }
+    {
+        self.shapes.get(id.0 as usize)
+    }
+
+    /// Whether there is a shape of this number.
+    pub fn has(&self, id: ShapeId) -> bool
+        ensures { result ≡ nat_lt id.0 (length (registry self.now)) }
+    {
+        (id.0 as usize) < self.shapes.len()
+    }
+
+    /// The shape of this name. None where there is no such shape.
+    #[tactic(auto, using(crate::proofs::Lists::position_map))]
+    pub fn find(&self, name: &str) -> Option<ShapeId>
+        ensures { option_map (λ id. id.0) result ≡ position (λ s. bytes_eq s.name name.now) (registry self.now) }
+    {
+        let at = place_of(self.shapes.as_slice(), name)?;
+        Some(ShapeId(at as u32))
+    }
+
+    /// The shapes in the order of their numbers.
+    pub fn as_slice(&self) -> &[Shape]
+        ensures { result.now ≡ self.now }
+    {
+        self.shapes.as_slice()
+    }
+
+    /// What every registry keeps. It does nothing when it runs.
+    pub fn rules(&self)
+        ensures { IsRegistry (registry self.now) }
+    {
+        let _ = &self.shapes;
+    }
+}
+
+fn place_of(shapes: &[Shape], name: &str) -> Option<usize>
+    ensures { result ≡ position (λ s. bytes_eq s.name name.now) shapes.now }
+{
+    shapes.iter().position(|shape| shape.name.as_str() == name)
+}

@@ -1,0 +1,2 @@
+mod registries;
+mod values;
