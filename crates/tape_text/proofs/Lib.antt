@@ -1,0 +1,13 @@
+pub mod Options
+pub mod Strip
+pub mod Numbers
+pub mod Words
+pub mod Texts
+pub mod Splits
+pub mod NoEnds
+pub mod LineLaws
+pub mod TapeLaws
+pub mod Stands
+pub mod Taking
+pub mod Adding
+pub mod Small

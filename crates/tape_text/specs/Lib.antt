@@ -1,0 +1,7 @@
+pub mod Fronts
+pub mod Bodies
+pub mod Coming
+pub mod Laws
+pub mod Parser
+pub mod Writer
+pub mod Joining

@@ -1,0 +1,39 @@
+-- A parser of a tape: what it still gives, and what stands at a place of its input.
+use Rattle.std.specs.Prelude.{◌≡◌, ◌<◌, ◌≤◌, ℕ, ◌-◌, Bool, true, false, List, [], ◌∷◌, ◌++◌, drop, length, Option, Some, None, Result, Ok, Err}
+use Rattle.semantics.specs.Faults.{ends, stops, Coming}
+use Rattle.event_core.specs.Events.{event_of}
+use Rattle.event_core.specs.Faults.{parse_fault}
+use Rattle.event_core.specs.declared.event.ParseEvent.{ParseEvent}
+use Rattle.event_core.specs.declared.error.ParseError.{ParseError}
+use Rattle.format_traits.specs.Parsing.{Parsing, Gave, EndAfter, telling}
+use Rattle.tape_text.specs.Coming.{good, bad, judged, before, only, coming_from}
+
+-- a parser of a tape: its input, how much of it is taken, and how many faults were met
+pub record Tape : Type 0 where
+  pub input : List ℕ
+  pub at : ℕ
+  pub faults : ℕ
+
+-- what comes from a place of an input
+abbrev pub coming_at : List ℕ → ℕ → Coming
+coming_at input at = coming_from at (drop at input)
+
+-- Each event takes at least one byte, its line feed.
+abbrev pub parsing_of : Tape → Parsing
+parsing_of t = telling (coming_at t.input t.at) (length t.input - t.at) t.faults None
+
+-- a line that stands there was judged so
+abbrev pub JudgesLine : ℕ → List ℕ → Result ParseEvent ParseError → Type 0
+JudgesLine at line (Ok e) = judged at line ≡ good (event_of e)
+JudgesLine at line (Err e) = judged at line ≡ bad (parse_fault e)
+
+-- what stands at a place of an input: an event, with the place behind its line, the end, or a fault
+abbrev pub StandsAt : List ℕ → ℕ → Result (Option (ParseEvent × ℕ)) ParseError → Type 0
+StandsAt input at (Ok (Some found)) = (at < found.1) × (found.1 ≤ length input) × (coming_at input at ≡ before (event_of found.0) (coming_at input found.1))
+StandsAt input at (Ok None) = coming_at input at ≡ only ends
+StandsAt input at (Err e) = coming_at input at ≡ only (stops (parse_fault e))
+
+-- an event was given and put behind those that the buffer held, or none was left
+abbrev pub PutNext : Bool → Parsing → Parsing → List ParseEvent → List ParseEvent → Type 0
+PutNext true old new held now = (e : ParseEvent) × (now ≡ held ++ (e ∷ [])) × Gave (event_of e ∷ []) old new
+PutNext false old new held now = (now ≡ held) × Gave [] old new × EndAfter [] new

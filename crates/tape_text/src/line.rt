@@ -1,0 +1,92 @@
+//! A line of a tape: its event, or its fault.
+ghost use Rattle.std.specs.Prelude.{◌≡◌, ◌<◌, ◌≤◌, ◌≢◌, ℕ, length, take, get_or, Some, None, MatchOption};
+ghost use Rattle.std.specs.Str.{chars};
+ghost use Rattle.semantics.specs.Faults.{invalid_utf8, unexpected_eof};
+ghost use Rattle.semantics.specs.Tapes.{first_or_end};
+ghost use Rattle.event_core.specs.Faults.{fault_kind_of, parse_fault};
+ghost use Rattle.tape_text.specs.Parser.{JudgesLine, StandsAt};
+
+use crate::body::event_of;
+use event_core::{DeserializeErrorKind, ParseError, ParseEvent, Span};
+
+/// The first character of a line, a line feed where it is empty.
+fn first_char(line: &str) -> char
+    ensures { result ≡ first_or_end (chars line.now) }
+{
+    match line.chars().next() {
+        Some(c) => c,
+        None => '\n',
+    }
+}
+
+/// The first bytes of a line that isn't UTF-8, up to 16.
+fn not_utf8(line: &[u8]) -> DeserializeErrorKind
+    ensures { fault_kind_of result ≡ invalid_utf8 (take 16 line.now) }
+{
+    let mut context = [0; 16];
+    let len = line.len().min(16);
+    context[..len].copy_from_slice(&line[..len]);
+    DeserializeErrorKind::InvalidUtf8 {
+        context,
+        context_len: len as u8,
+    }
+}
+
+/// The event of a line that stands at a byte of the tape, or its fault.
+fn judged(line: &[u8], at: usize) -> Result<ParseEvent<'_>, ParseError>
+    ensures { JudgesLine at line.now result }
+{
+    let span = Span {
+        offset: at,
+        len: line.len(),
+    };
+    let Ok(text) = str::from_utf8(line) else {
+        return Err(ParseError::new(span, not_utf8(line)));
+    };
+    match event_of(text, span) {
+        Some(event) => Ok(event),
+        None => {
+            let kind = DeserializeErrorKind::UnexpectedChar {
+                ch: first_char(text),
+                expected: "tape line",
+            };
+            Err(ParseError::new(span, kind))
+        }
+    }
+}
+
+/// Where the first line feed stands.
+fn line_end(bytes: &[u8]) -> Option<usize>
+    ensures { MatchOption result ((k : ℕ) → k < length bytes.now → get_or bytes.now k 0 ≢ 10)
+        (λ end. (end < length bytes.now) × (get_or bytes.now end 0 ≡ 10) × ((k : ℕ) → k < end → get_or bytes.now k 0 ≢ 10)) }
+{
+    bytes.iter().position(|b| *b == b'\n')
+}
+
+/// The fault of bytes that stand there with no line feed.
+fn unfinished(at: usize, len: usize) -> ParseError
+    ensures { parse_fault result ≡ record { kind = unexpected_eof; span = Some (record { offset = at; len = len }); path = None } }
+{
+    let kind = DeserializeErrorKind::UnexpectedEof {
+        expected: "line end",
+    };
+    ParseError::new(Span { offset: at, len }, kind)
+}
+
+/// The event of the line at a place, with the place behind it, or the fault that stands there. None at the end.
+pub fn event_at(input: &[u8], at: usize) -> Result<Option<(ParseEvent<'_>, usize)>, ParseError>
+    requires { at ≤ length input.now }
+    ensures { StandsAt input.now at result }
+{
+    let rest = &input[at..];
+    if rest.is_empty() {
+        return Ok(None);
+    }
+    let Some(len) = line_end(rest) else {
+        return Err(unfinished(at, rest.len()));
+    };
+    match judged(&rest[..len], at) {
+        Ok(event) => Ok(Some((event, at + len + 1))),
+        Err(error) => Err(error),
+    }
+}
