@@ -1,0 +1,17 @@
+pub mod ReaderLaws
+pub mod ReaderCode
+pub mod Steps
+pub mod OutsideLaws
+pub mod Commands
+pub mod Tapes
+pub mod RecodeLaws
+pub mod LineFronts
+pub mod LineLaws
+pub mod FirstLines
+pub mod Names
+pub mod FieldSteps
+pub mod LineSteps
+pub mod Defining
+pub mod ShapeTexts
+pub mod Answering
+pub mod Running

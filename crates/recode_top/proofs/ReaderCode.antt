@@ -1,0 +1,10 @@
+pub mod Keys
+pub mod Filled
+pub mod Sources
+pub mod Turns
+pub mod Built
+pub mod Structs
+pub mod Loops
+pub mod Gathers
+pub mod Forms
+pub mod Whole

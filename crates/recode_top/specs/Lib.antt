@@ -1,0 +1,11 @@
+pub mod Reader
+pub mod Wrote
+pub mod Outside
+pub mod Stopping
+pub mod Recode
+pub mod LineReading
+pub mod ShapeLines
+pub mod ShapeReading
+pub mod ShapeErrors
+pub mod ShapeNotes
+pub mod Running

@@ -1,0 +1,14 @@
+pub mod Input
+pub mod Objects
+pub mod Structs
+pub mod Values
+pub mod Laws
+pub mod Causes
+pub mod Trails
+pub mod Stops
+pub mod Cursors
+pub mod Keys
+pub mod Plain
+pub mod Filled
+pub mod Forms
+pub mod Ending

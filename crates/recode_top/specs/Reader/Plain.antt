@@ -1,0 +1,92 @@
+-- A struct without flattened fields, step by step: what the code does is told in these words.
+use Rattle.std.specs.Prelude.{ℕ, ◌+◌, List, [], ◌∷◌, ◌++◌, length, Option, Some, None, slice_get, Result, Ok, Bool, true, false}
+use Rattle.semantics.specs.Trees.{Tree, structure, trees_of}
+use Rattle.semantics.specs.Shapes.{ScalarType, Field}
+use Rattle.semantics.specs.Events.{Span, of_struct, scalar, Event, leaf, start}
+use Rattle.semantics.specs.Faults.{Step, field_step, missing_field, duplicate_field, Fault}
+use Rattle.semantics.specs.Places.{At, below}
+use Rattle.semantics.specs.Reading.{from_events, set_scalar}
+use Rattle.recode_top.specs.Reader.Input.{Input, ◌>>=◌, Reads, refused, unexpected, never, taken_at, turning}
+use Rattle.recode_top.specs.Reader.Structs.{ReadsPart, Told, Got, nothing_got, taken_span}
+use Rattle.recode_top.specs.Reader.Keys.{Named, key_at}
+
+-- what an event sets a scalar to
+abbrev pub set_by : ScalarType → Event → Option Tree
+set_by t (leaf (scalar s n)) = set_scalar t s
+set_by t _ = None
+
+-- what was read behind a key
+abbrev pub told_of : Named → Tree → At Told
+told_of k v = record { path = k.place ∷ []; item = record { name = k.name; span = k.span; value = v } }
+
+abbrev pub with_told : Got → Named → Tree × Input → Result (Got × Input) Fault
+with_told s k v = Ok (record { count = s.count; values = s.values ++ (told_of k v.0 ∷ []) }, v.1)
+
+abbrev pub into_field : Option Span → ReadsPart → Field → Named → Got → Reads Got
+into_field (Some first) read f k s path input = refused (duplicate_field k.name (Some first)) path input
+into_field None read f k s path input = read f.shape from_events (path ++ (field_step f.name ∷ [])) input >>= with_told s k
+
+-- the value of a field whose key was taken, unless it has one already
+abbrev pub value_into : ReadsPart → Field → Named → Got → Reads Got
+value_into read f k s path input = into_field (taken_span (k.place ∷ []) s.values) read f k s path input
+
+abbrev pub and_more : Got × Input → Result ((Bool × Got) × Input) Fault
+and_more x = Ok ((true, x.0), x.1)
+
+abbrev pub field_found : Option Field → ReadsPart → Named → Got → Reads (Bool × Got)
+field_found None read k s path input = never path input
+field_found (Some f) read k s path input = value_into read f k s path input >>= and_more
+
+abbrev pub behind_key : Option Named → ReadsPart → List Field → Got → Reads (Bool × Got)
+behind_key None read fs s path input = Ok ((false, s), input)
+behind_key (Some k) read fs s path input = field_found (slice_get fs k.place) read k s path input
+
+-- an entry, or the end of the struct
+abbrev pub field_turn : ReadsPart → List Field → Got → Reads (Bool × Got)
+field_turn read fs s path input = key_at fs path input >>= λ x. behind_key x.0 read fs s path x.1
+
+-- the entries of a struct, up to its end
+abbrev pub fields_at : ReadsPart → List Field → Reads Got
+fields_at read fs path input = turning (field_turn read fs) (length input.events + 1) nothing_got path input
+
+abbrev pub first_value : List (At Told) → Option Tree
+first_value [] = None
+first_value (x ∷ xs) = Some x.item.value
+
+abbrev pub value_or_missing : Field → ℕ → Option Tree → List Step → Input → Result Tree Fault
+value_or_missing f shape None path input = refused (missing_field f.name shape) path input
+value_or_missing f shape (Some v) path input = Ok v
+
+-- the values of these fields, the first of which has place k, behind those that stand in front
+abbrev pub values_from : List Field → ℕ → ℕ → List Tree → List (At Told) → List Step → Input → Result (List Tree) Fault
+values_from [] shape k front got path input = Ok front
+values_from (f ∷ fs) shape k front got path input = value_or_missing f shape (first_value (below k got)) path input >>= λ v. values_from fs shape (k + 1) (front ++ (v ∷ [])) got path input
+
+abbrev pub as_struct : List Tree → Result Tree Fault
+as_struct vs = Ok (structure (trees_of vs))
+
+-- the struct of what was read
+abbrev pub struct_from : List Field → ℕ → Got → List Step → Input → Result Tree Fault
+struct_from fs shape s path input = values_from fs shape 0 [] s.values path input >>= as_struct
+
+abbrev pub struct_with : Input → Tree → Result (Tree × Input) Fault
+struct_with input v = Ok (v, input)
+
+abbrev pub finished_plain : List Field → ℕ → List Step → Got × Input → Result (Tree × Input) Fault
+finished_plain fs shape path x = struct_from fs shape x.0 path x.1 >>= struct_with x.1
+
+abbrev pub begins_struct : Event → Bool
+begins_struct (start of_struct k n) = true
+begins_struct _ = false
+
+abbrev pub start_of : Bool → List Step → Input → Result Input Fault
+start_of true path input = Ok input
+start_of false path input = unexpected path input
+
+-- the start of a struct
+abbrev pub start_at : List Step → Input → Result Input Fault
+start_at path input = taken_at path input >>= λ x. start_of (begins_struct x.0) path x.1
+
+-- a struct of this shape
+abbrev pub plain_at : ReadsPart → List Field → ℕ → Reads Tree
+plain_at read fs shape path input = start_at path input >>= λ after. fields_at read fs path after >>= finished_plain fs shape path

@@ -1,0 +1,115 @@
+ghost use Rattle.std.specs.Prelude.{◌≡◌, ◌≢◌, ℕ, ◌+◌, ◌<◌, [], ◌∷◌, ◌++◌, length, map, get_or, MatchOption, IfOk, IfErr, OnOk, IsTrue};
+ghost use Rattle.semantics.specs.Scalars.{scalar_drafts};
+ghost use Rattle.semantics.specs.ShapeText.{AreLines, has_names, is_name, struct_line};
+ghost use Rattle.shape_core.specs.Shapes.{drafts_of};
+ghost use Rattle.recode_top.specs.ShapeErrors.{text_kind};
+ghost use Rattle.recode_top.specs.ShapeLines.{shape_line, StandsAt, IsRefused};
+ghost use Rattle.recode_top.specs.ShapeReading.{named_drafts, IsNamed, IsPlaceFault, IsLineFault, AreLinesOf};
+
+use crate::shape_fault::{ReadShapesError, ShapeTextKind, fault};
+use crate::shape_line::{ShapeLine, line_of};
+use shape_core::{Items, NameFault, ShapesBuilder};
+use std::alloc::Global;
+use std::str;
+
+/// Where the first line feed stands.
+fn line_end(bytes: &[u8]) -> Option<usize>
+    ensures { MatchOption result ((k : ℕ) → k < length bytes.now → get_or bytes.now k 0 ≢ 10)
+        (λ end. (end < length bytes.now) × (get_or bytes.now end 0 ≡ 10) × ((k : ℕ) → k < end → get_or bytes.now k 0 ≢ 10)) }
+{
+    bytes.iter().position(|b| *b == b'\n')
+}
+
+/// What the first line says, and what stands behind it.
+fn first_line(left: &[u8]) -> Result<(ShapeLine<'_>, &[u8]), ShapeTextKind>
+    requires { left.now ≢ [] }
+    ensures line { IfOk result (λ p. StandsAt left.now (shape_line p.0) p.1.now) }
+    ensures refused { IfErr result (λ kind. IsRefused left.now (text_kind kind)) }
+{
+    let end = line_end(left);
+    let Ok(line) = str::from_utf8(&left[..end.unwrap_or(left.len())]) else {
+        return Err(ShapeTextKind::NotUtf8);
+    };
+    let Some(end) = end else {
+        return Err(ShapeTextKind::BadLine);
+    };
+    match line_of(line) {
+        Some(line) => Ok((line, &left[end + 1..])),
+        None => Err(ShapeTextKind::BadLine),
+    }
+}
+
+/// The number of the line behind these.
+fn next_number(lines: &[ShapeLine<'_>]) -> usize
+    ensures { result ≡ length (map shape_line lines.now) + 1 }
+{
+    lines.len() + 1
+}
+
+/// Gives a number to the struct that begins behind these lines.
+fn name_struct(
+    lines: &[ShapeLine<'_>],
+    name: &str,
+    builder: &mut ShapesBuilder,
+) -> Result<(), ReadShapesError>
+    requires names { IsTrue (is_name name.now) }
+    requires named { drafts_of builder.old ≡ named_drafts (map shape_line lines.now) }
+    ensures named { OnOk result (IsNamed (map shape_line lines.now) name.now (drafts_of builder.new)) }
+    ensures refused { IfErr result (λ error. IsPlaceFault (map shape_line lines.now) (struct_line name.now) error) }
+{
+    match builder.name(name) {
+        Ok(_) => Ok(()),
+        Err(NameFault::TooMany) => Err(fault(next_number(lines), ShapeTextKind::TooMany)),
+        Err(NameFault::Alloc) => Err(ReadShapesError::Alloc),
+    }
+}
+
+/// Sees that the line can stand behind these, and gives a number to its struct.
+fn place_line(
+    lines: &[ShapeLine<'_>],
+    line: &ShapeLine<'_>,
+    builder: &mut ShapesBuilder,
+) -> Result<(), ReadShapesError>
+    requires good { AreLines (map shape_line lines.now) }
+    requires names { IsTrue (has_names (shape_line line.now)) }
+    requires named { drafts_of builder.old ≡ named_drafts (map shape_line lines.now) }
+    ensures good { OnOk result (AreLines (map shape_line lines.now ++ shape_line line.now ∷ [])) }
+    ensures named { OnOk result (drafts_of builder.new ≡ named_drafts (map shape_line lines.now ++ shape_line line.now ∷ [])) }
+    ensures refused { IfErr result (λ error. IsPlaceFault (map shape_line lines.now) (shape_line line.now) error) }
+{
+    match line {
+        ShapeLine::Struct { name } => name_struct(lines, name, builder),
+        ShapeLine::Field { .. } => {
+            if lines.is_empty() {
+                Err(fault(1, ShapeTextKind::OutOfPlace))
+            } else {
+                Ok(())
+            }
+        }
+    }
+}
+
+/// The lines of a text. The builder, which holds the scalars alone, gives a number to each struct.
+pub(crate) fn read_lines<'a>(
+    alloc: Global,
+    text: &'a [u8],
+    builder: &mut ShapesBuilder,
+) -> Result<Items<ShapeLine<'a>>, ReadShapesError>
+    requires { drafts_of builder.old ≡ scalar_drafts }
+    ensures lines { IfOk result (λ lines. AreLinesOf text.now (map shape_line lines)) }
+    ensures named { IfOk result (λ lines. drafts_of builder.new ≡ named_drafts (map shape_line lines)) }
+    ensures refused { IfErr result (λ error. IsLineFault text.now error) }
+{
+    let mut lines = Items::new(alloc);
+    let mut left = text;
+    'lines: while !left.is_empty() {
+        let (line, rest) = match first_line(left) {
+            Ok(found) => found,
+            Err(kind) => return Err(fault(next_number(lines.as_slice()), kind)),
+        };
+        place_line(lines.as_slice(), &line, builder)?;
+        lines.push(line)?;
+        left = rest;
+    }
+    Ok(lines)
+}
