@@ -1,10 +1,9 @@
 -- The calls that write a value to a serializer, up to the first part that has no written form.
-use Rattle.std.specs.Prelude.{ℕ, Bool, true, false, cond, List, [], ◌∷◌, ◌++◌, Option, Some, None}
+use Rattle.std.specs.Prelude.{ℕ, Bool, true, false, List, [], ◌∷◌, ◌++◌, Option, Some, None}
 use Rattle.semantics.specs.Trees.{Tree, unsigned, structure, Trees, no_trees, tree}
 use Rattle.semantics.specs.Shapes.{bits64, ScalarType, Field, effective_name, Registry}
 use Rattle.semantics.specs.Scalars.{fits_unsigned}
 use Rattle.semantics.specs.Calls.{u64_literal, Call, begin_struct, field_key, end_struct, write_scalar, Settings}
-use Rattle.semantics.specs.Documents.{Document, plain, sequence, object, Documents, no_documents, document, Members, no_members, member}
 use Rattle.semantics.specs.Typed.{scalar_at, object_at}
 use Rattle.semantics.specs.Writing.{is_u64}
 

@@ -1,14 +1,13 @@
 -- Why something is refused: which part was due, and what the events that came say of it.
-use Rattle.std.specs.Prelude.{◌≡◌, ℕ, zero, suc, ◌⊎◌, List, [], ◌∷◌, ◌++◌, Bool, Option, Some, None, option_and_then, slice_get, Ok, Err}
-use Rattle.semantics.specs.Texts.{Phrase}
+use Rattle.std.specs.Prelude.{◌≡◌, ℕ, zero, suc, ◌⊎◌, List, [], ◌∷◌, ◌++◌, Some, None, option_and_then, slice_get, Err}
 use Rattle.semantics.specs.Trees.{Tree}
-use Rattle.semantics.specs.Shapes.{Field, StructShape, Definition, Registry, definition_at}
+use Rattle.semantics.specs.Shapes.{Field, StructShape, Registry, definition_at}
 use Rattle.semantics.specs.Events.{Span, Metadata, Note, Key, key_note, named, ContainerKind, of_struct, Event, leaf, key, start, stop, span_of}
 use Rattle.semantics.specs.Runs.{Run, run_events, Entry, entries_events}
 use Rattle.semantics.specs.Faults.{Step, field_step}
 use Rattle.semantics.specs.Typed.{object_of}
 use Rattle.semantics.specs.Writing.{Unwritten, write}
-use Rattle.semantics.specs.Places.{Path, At, below}
+use Rattle.semantics.specs.Places.{Path, below}
 use Rattle.semantics.specs.Keys.{Plan, plan_of, leads, after_key, placed}
 use Rattle.semantics.specs.Reading.{Setting, Source, from_events, source_of, fill, plain_layout, read, Reads}
 

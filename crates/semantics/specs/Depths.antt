@@ -1,8 +1,8 @@
 -- How deep a value is.
-use Rattle.std.specs.Prelude.{ℕ, suc, max, List, [], ◌∷◌, Option, Some, None}
-use Rattle.semantics.specs.Trees.{Tree, some, list, structure, Trees, no_trees, tree}
-use Rattle.semantics.specs.Shapes.{Field, StructShape, Registry}
-use Rattle.semantics.specs.Typed.{option_at, list_at, object_at}
+use Rattle.std.specs.Prelude.{ℕ, suc, max, List, ◌∷◌, Option, Some, None}
+use Rattle.semantics.specs.Trees.{Tree, some, ok, err, list, structure, Trees, no_trees, tree}
+use Rattle.semantics.specs.Shapes.{Field, Registry}
+use Rattle.semantics.specs.Typed.{option_at, ok_at, err_at, item_at, struct_at}
 
 abbrev pub of_part : {A : Type 0} → Option A → (A → ℕ) → ℕ
 of_part None f = 0
@@ -12,8 +12,10 @@ of_part (Some x) f = f x
 abbrev mutual
   pub depth : Registry → ℕ → Tree → ℕ
   depth g s (some v) = suc (of_part (option_at g s) (λ i. depth g i v))
-  depth g s (list vs) = suc (of_part (list_at g s) (λ i. deepest g i vs))
-  depth g s (structure vs) = suc (of_part (object_at g s) (λ d. deepest_field g d.fields vs))
+  depth g s (ok v) = suc (of_part (ok_at g s) (λ i. depth g i v))
+  depth g s (err v) = suc (of_part (err_at g s) (λ i. depth g i v))
+  depth g s (list vs) = suc (of_part (item_at g s) (λ i. deepest g i vs))
+  depth g s (structure vs) = suc (of_part (struct_at g s) (λ d. deepest_field g d.fields vs))
   depth g s _ = 1
 
   pub deepest : Registry → ℕ → Trees → ℕ

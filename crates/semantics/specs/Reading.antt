@@ -1,13 +1,12 @@
 -- What a run is read as.
-use Rattle.std.specs.Prelude.{◌≡◌, ℕ, zero, suc, List, [], ◌∷◌, Bool, true, false, cond, ◌&&◌, not, length, Option, Some, None, option_map, option_and_then, slice_get}
-use Rattle.semantics.specs.Texts.{Phrase}
+use Rattle.std.specs.Prelude.{◌≡◌, ℕ, zero, suc, List, [], ◌∷◌, Bool, false, cond, ◌&&◌, not, length, Option, Some, None, option_map, option_and_then}
 use Rattle.semantics.specs.Trees.{Tree, unsigned, none, structure, Trees, no_trees, tree}
 use Rattle.semantics.specs.Shapes.{bits64, ScalarType, is_named, Field, StructShape, Definition, scalar_shape, option_shape, struct_shape, Registry, definition_at}
 use Rattle.semantics.specs.Scalars.{fits_unsigned}
 use Rattle.semantics.specs.Events.{Metadata, Scalar, u64, Key, named, nameless, ordered, of_struct, Event}
 use Rattle.semantics.specs.Runs.{Run, one, group, Entry, entries, run_events}
 use Rattle.semantics.specs.Writing.{is_u64}
-use Rattle.semantics.specs.Places.{Path, At, below, is_end, has_whole, Choice}
+use Rattle.semantics.specs.Places.{At, below, has_whole, Choice}
 use Rattle.semantics.specs.Keys.{Layout, plan_of, placed, are_allowed}
 
 -- what reading depends on beside the shape and the run

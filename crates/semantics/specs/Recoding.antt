@@ -1,10 +1,10 @@
 -- What it means to recode a tape, and why a tape is refused.
-use Rattle.std.specs.Prelude.{◌≡◌, ℕ, ◌≤◌, ◌⊎◌, List, [], ◌++◌, length, Bool, true, Option, Some, None, Ok, IsTrue}
+use Rattle.std.specs.Prelude.{◌≡◌, ℕ, ◌≤◌, ◌⊎◌, List, ◌++◌, length, true, Option, Some, None, Ok, IsTrue}
 use Rattle.semantics.specs.Trees.{Tree}
 use Rattle.semantics.specs.Shapes.{Registry}
 use Rattle.semantics.specs.Events.{Span, Event}
 use Rattle.semantics.specs.Documents.{Document, Permuted}
-use Rattle.semantics.specs.Faults.{Step, FaultKind, unexpected_char, unexpected_eof, invalid_utf8, unexpected_token, missing_field, duplicate_field, too_deep, Fault, Ending, ends, stops, Coming}
+use Rattle.semantics.specs.Faults.{Step, FaultKind, unexpected_char, unexpected_eof, invalid_utf8, unexpected_token, missing_field, duplicate_field, too_deep, Fault, Ending, ends, stops}
 use Rattle.semantics.specs.Typed.{typed, tree_is_utf8}
 use Rattle.semantics.specs.Writing.{write}
 use Rattle.semantics.specs.Reading.{Setting, from_events, Reads}

@@ -1,10 +1,11 @@
 -- The checked registry: the rules that its shapes keep, each with the name of the fault where it is broken.
-use Rattle.std.specs.Prelude.{◌≡◌, ℕ, ◌<◌, ◌≤◌, ◌==◌, nat_lt, List, [], ◌∷◌, length, map, take, Bool, true, false, ◌||◌, ◌&&◌, not, if◌then◌else◌, Option, Some, None, option_and_then, is_some, slice_get, bytes_eq, IsTrue}
+use Rattle.std.specs.Prelude.{◌≡◌, ℕ, zero, suc, ◌<◌, ◌≤◌, ◌==◌, nat_lt, List, [], ◌∷◌, length, map, take, Bool, true, false, ◌||◌, ◌&&◌, not, if◌then◌else◌, Option, Some, None, option_and_then, is_some, slice_get, bytes_eq, IsTrue}
 use Rattle.std.specs.List.{list_any, list_all}
+use Rattle.std.specs.Option.{option_map_or}
+use Rattle.std.specs.Fmt.{decimal}
 use Rattle.std.specs.Str.{is_utf8}
-use Rattle.semantics.specs.Texts.{is_plain}
-use Rattle.semantics.specs.Shapes.{is_named, SkipRule, skip_never, Field, StructShape, Variant, EnumForm, external, internal, adjacent, Definition, scalar_shape, option_shape, result_shape, list_shape, array_shape, set_shape, map_shape, struct_shape, enum_shape, transparent_shape, Shape, Draft, Registry}
-use Rattle.semantics.specs.Scalars.{scalar_drafts, u64_number}
+use Rattle.semantics.specs.Shapes.{StructKind, is_tuple, is_unit, SkipRule, skip_never, Field, StructShape, Variant, EnumForm, internal, adjacent, Definition, scalar_shape, option_shape, result_shape, list_shape, array_shape, set_shape, map_shape, struct_shape, enum_shape, transparent_shape, Shape, Draft, Registry}
+use Rattle.semantics.specs.Scalars.{scalar_drafts}
 
 -- The kinds of faults, in their order.
 pub data ShapeFaultKind : Type 0 where
@@ -39,6 +40,12 @@ abbrev pub on_fields : (List Field → Bool) → Definition → Bool
 on_fields p (struct_shape s) = p s.fields
 on_fields p (enum_shape form vs) = list_any (λ v. p v.fields) vs
 on_fields p _ = false
+
+-- the same, of those alone that are of such a kind
+abbrev pub on_fields_of : (StructKind → Bool) → (List Field → Bool) → Definition → Bool
+on_fields_of kind p (struct_shape s) = kind s.kind && p s.fields
+on_fields_of kind p (enum_shape form vs) = list_any (λ v. kind v.kind && p v.fields) vs
+on_fields_of kind p _ = false
 
 -- a test of some pair, the earlier one first
 abbrev pub has_pair : {A : Type 0} → (A → A → Bool) → List A → Bool
@@ -80,6 +87,45 @@ repeats_variant _ = false
 abbrev pub repeats_name : Definition → Bool
 repeats_name d = on_fields repeats_field d || repeats_variant d
 
+-- BadFlatten: an item of a tuple has another name than its place, in decimal. That nothing is flattened that can't be
+-- is a rule of forms that aren't built.
+abbrev pub misplaces : ℕ → List Field → Bool
+misplaces k [] = false
+misplaces k (f ∷ fs) = not (bytes_eq f.name (decimal k)) || misplaces (suc k) fs
+
+abbrev pub has_bad_item : Definition → Bool
+has_bad_item d = on_fields_of is_tuple (misplaces 0) d
+
+-- StepCycle: a shape is reached from itself by steps alone, which are those to a part that stands where the shape
+-- itself does. Steps lead from an option and from a transparent shape to the inner one.
+abbrev pub step_shapes : Definition → List ℕ
+step_shapes (option_shape s) = s ∷ []
+step_shapes (transparent_shape s) = s ∷ []
+step_shapes _ = []
+
+abbrev pub draft_steps : Draft → List ℕ
+draft_steps d = option_map_or step_shapes d.definition []
+
+abbrev pub steps_from : List Draft → ℕ → List ℕ
+steps_from ds s = option_map_or draft_steps (slice_get ds s) []
+
+-- one comes from s to t by one step or more, and by no more than so many
+abbrev pub steps_to : List Draft → ℕ → ℕ → ℕ → Bool
+steps_to ds zero t s = false
+steps_to ds (suc n) t s = list_any (λ u. u == t || steps_to ds n t u) (steps_from ds s)
+
+-- The shape lies on a cycle of steps. One that passes no shape twice has no more steps than there are shapes.
+abbrev pub lies_on_cycle : List Draft → ℕ → Bool
+lies_on_cycle ds i = steps_to ds (length ds) i i
+
+-- BadEnum: what is of a unit kind has fields. The rules on variants are those of forms that aren't built.
+abbrev pub has_some : {A : Type 0} → List A → Bool
+has_some [] = false
+has_some (x ∷ xs) = true
+
+abbrev pub has_bad_unit : Definition → Bool
+has_bad_unit d = on_fields_of is_unit has_some d
+
 -- TooMany: more than 65,535 fields of one struct or variant, or variants of one enum.
 abbrev pub is_long : {A : Type 0} → List A → Bool
 is_long xs = nat_lt shape_limit (length xs)
@@ -91,8 +137,8 @@ has_many_variants _ = false
 abbrev pub has_too_many : Definition → Bool
 has_too_many d = on_fields is_long d || has_many_variants d
 
--- NotBuilt: a form that isn't built yet. Built are the scalars, and a named struct with no attribute, each of
--- whose fields has no attribute, the shape u64, and a name with no backslash, quote or line feed.
+-- NotBuilt: the shape uses a form that isn't built yet, whatever the shapes are that it refers to. Not built are sets,
+-- maps and enums, and each attribute of a field, a struct or a shape.
 abbrev pub never_skips : SkipRule → Bool
 never_skips skip_never = true
 never_skips _ = false
@@ -100,16 +146,15 @@ never_skips _ = false
 abbrev pub has_attribute : Field → Bool
 has_attribute f = is_some f.rename || (is_some f.alias || (is_some f.default || (not (never_skips f.skip) || (f.flattened || (is_some f.metadata || is_some f.proxy)))))
 
-abbrev pub is_unbuilt_field : Field → Bool
-is_unbuilt_field f = has_attribute f || (not (f.shape == u64_number) || not (is_plain f.name))
-
 abbrev pub is_unbuilt_struct : StructShape → Bool
-is_unbuilt_struct s = not (is_named s.kind) || (s.deny || (is_some s.default || (s.container || list_any is_unbuilt_field s.fields)))
+is_unbuilt_struct s = s.deny || (is_some s.default || (s.container || list_any has_attribute s.fields))
 
 abbrev pub is_unbuilt : Definition → Bool
-is_unbuilt (scalar_shape type) = false
+is_unbuilt (set_shape s) = true
+is_unbuilt (map_shape s t) = true
 is_unbuilt (struct_shape s) = is_unbuilt_struct s
-is_unbuilt _ = true
+is_unbuilt (enum_shape form vs) = true
+is_unbuilt _ = false
 
 abbrev pub is_not_built : Draft → Bool
 is_not_built d = is_some d.proxy || on_definition d.definition is_unbuilt
@@ -132,6 +177,9 @@ rules_of ds i d =
     rule undefined (is_undefined (length ds) d.definition)
     ∷ rule repeated_shape_name (repeats_shape_name ds i d)
     ∷ rule repeated_name (on_definition d.definition repeats_name)
+    ∷ rule bad_flatten (on_definition d.definition has_bad_item)
+    ∷ rule step_cycle (lies_on_cycle ds i)
+    ∷ rule bad_enum (on_definition d.definition has_bad_unit)
     ∷ rule too_many (on_definition d.definition has_too_many)
     ∷ []
 

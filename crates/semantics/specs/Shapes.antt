@@ -1,5 +1,5 @@
 -- Shapes: what describes a type. A shape refers to others by their numbers.
-use Rattle.std.specs.Prelude.{ℕ, ℤ, Bool, true, false, List, Option, Some, None, option_and_then, unwrap_or, slice_get}
+use Rattle.std.specs.Prelude.{ℕ, ℤ, Bool, true, false, List, Option, Some, option_and_then, unwrap_or, slice_get}
 use Rattle.semantics.specs.Trees.{Tree}
 
 -- of a number
@@ -32,6 +32,17 @@ pub data StructKind : Type 0 where
 abbrev pub is_named : StructKind → Bool
 is_named named_kind = true
 is_named _ = false
+
+-- fields by their places
+abbrev pub is_tuple : StructKind → Bool
+is_tuple tuple_kind = true
+is_tuple tuple_struct_kind = true
+is_tuple _ = false
+
+-- no fields
+abbrev pub is_unit : StructKind → Bool
+is_unit unit_kind = true
+is_unit _ = false
 
 -- when a field isn't written
 pub data SkipRule : Type 0 where

@@ -1,9 +1,8 @@
 -- Which values are of a shape.
-use Rattle.std.specs.Prelude.{ℕ, zero, suc, ℤ, Bool, true, false, cond, ◌&&◌, List, [], ◌∷◌, length, Option, Some, None, option_and_then}
+use Rattle.std.specs.Prelude.{ℕ, zero, suc, ℤ, Bool, true, false, cond, ◌&&◌, ◌==◌, List, [], ◌∷◌, length, Option, Some, None, option_and_then}
 use Rattle.std.specs.Str.{is_utf8}
-use Rattle.semantics.specs.Texts.{Phrase}
-use Rattle.semantics.specs.Trees.{Tree, unit_value, bool_value, char_value, unsigned, signed, text, none, some, ok, err, list, mapping, structure, variant, Trees, no_trees, tree, Pairs, no_pairs, pair}
-use Rattle.semantics.specs.Shapes.{ScalarType, unit_type, bool_type, char_type, unsigned_type, signed_type, string_type, str_type, is_named, Field, StructShape, Definition, scalar_shape, option_shape, list_shape, struct_shape, transparent_shape, Registry, definition_at}
+use Rattle.semantics.specs.Trees.{Tree, unit_value, bool_value, char_value, unsigned, signed, text, none, some, ok, err, list, mapping, structure, variant, Trees, no_trees, tree, tree_count, Pairs, no_pairs, pair}
+use Rattle.semantics.specs.Shapes.{ScalarType, unit_type, bool_type, char_type, unsigned_type, signed_type, string_type, str_type, is_named, Field, StructShape, Definition, scalar_shape, option_shape, result_shape, list_shape, array_shape, struct_shape, transparent_shape, Registry, definition_at}
 use Rattle.semantics.specs.Scalars.{fits_unsigned, fits_signed}
 
 -- a test of what an option holds
@@ -33,9 +32,25 @@ abbrev pub option_of : Definition → Option ℕ
 option_of (option_shape s) = Some s
 option_of _ = None
 
-abbrev pub list_of : Definition → Option ℕ
-list_of (list_shape s) = Some s
-list_of _ = None
+-- what a result holds where it went well, and where it didn't
+abbrev pub ok_of : Definition → Option ℕ
+ok_of (result_shape s t) = Some s
+ok_of _ = None
+
+abbrev pub err_of : Definition → Option ℕ
+err_of (result_shape s t) = Some t
+err_of _ = None
+
+-- the items of a list or an array
+abbrev pub item_of : Definition → Option ℕ
+item_of (list_shape s) = Some s
+item_of (array_shape s n) = Some s
+item_of _ = None
+
+-- how many items there have to be, where that is said
+abbrev pub length_of : Definition → Option ℕ
+length_of (array_shape s n) = Some n
+length_of _ = None
 
 abbrev pub struct_of : Definition → Option StructShape
 struct_of (struct_shape s) = Some s
@@ -52,8 +67,17 @@ scalar_at g s = option_and_then scalar_of (base g s)
 abbrev pub option_at : Registry → ℕ → Option ℕ
 option_at g s = option_and_then option_of (base g s)
 
-abbrev pub list_at : Registry → ℕ → Option ℕ
-list_at g s = option_and_then list_of (base g s)
+abbrev pub ok_at : Registry → ℕ → Option ℕ
+ok_at g s = option_and_then ok_of (base g s)
+
+abbrev pub err_at : Registry → ℕ → Option ℕ
+err_at g s = option_and_then err_of (base g s)
+
+abbrev pub item_at : Registry → ℕ → Option ℕ
+item_at g s = option_and_then item_of (base g s)
+
+abbrev pub length_at : Registry → ℕ → Option ℕ
+length_at g s = option_and_then length_of (base g s)
 
 abbrev pub struct_at : Registry → ℕ → Option StructShape
 struct_at g s = option_and_then struct_of (base g s)
@@ -87,8 +111,13 @@ takes_text string_type = true
 takes_text str_type = true
 takes_text _ = false
 
--- The value is of the shape. A struct has one value of its shape for each field.
--- Results, arrays, sets, maps and enums aren't built yet: no value is of such a shape.
+-- there are so many, where that is said
+abbrev pub has_length : Option ℕ → ℕ → Bool
+has_length None n = true
+has_length (Some m) n = m == n
+
+-- The value is of the shape. An array has as many items as it says, and a struct has one value of its shape for each
+-- field. Sets, maps and enums aren't built yet: no value is of such a shape.
 abbrev mutual
   pub typed : Registry → ℕ → Tree → Bool
   typed g s unit_value = on_some (scalar_at g s) takes_unit
@@ -99,10 +128,10 @@ abbrev mutual
   typed g s (text t) = on_some (scalar_at g s) takes_text
   typed g s none = on_some (option_at g s) (λ i. true)
   typed g s (some v) = on_some (option_at g s) (λ i. typed g i v)
-  typed g s (list vs) = on_some (list_at g s) (λ i. each_typed g i vs)
+  typed g s (ok v) = on_some (ok_at g s) (λ i. typed g i v)
+  typed g s (err v) = on_some (err_at g s) (λ i. typed g i v)
+  typed g s (list vs) = has_length (length_at g s) (tree_count vs) && on_some (item_at g s) (λ i. each_typed g i vs)
   typed g s (structure vs) = on_some (struct_at g s) (λ d. fields_typed g d.fields vs)
-  typed g s (ok v) = false
-  typed g s (err v) = false
   typed g s (mapping ps) = false
   typed g s (variant i vs) = false
 

@@ -1,16 +1,12 @@
 -- Which shapes and values are read back as they were written.
-use Rattle.std.specs.Prelude.{◌≡◌, ℕ, ◌≤◌, List, [], ◌∷◌, Bool, true, false, Option, Some, None, option_map, Ok, Contains, IsTrue}
+use Rattle.std.specs.Prelude.{◌≡◌, ℕ, List, [], ◌∷◌, Option, Some, None, Contains}
 use Rattle.semantics.specs.Texts.{Phrase}
-use Rattle.semantics.specs.Trees.{Tree, text, none, some, list, structure, Trees, no_trees, tree}
-use Rattle.semantics.specs.Shapes.{ScalarType, str_type, SkipRule, skip_never, skip_always, skip_none, skip_empty, skip_default, Field, StructShape, Definition, scalar_shape, option_shape, list_shape, struct_shape, transparent_shape, Registry, definition_at}
-use Rattle.semantics.specs.Events.{Event}
-use Rattle.semantics.specs.Documents.{Document, Permuted}
-use Rattle.semantics.specs.Typed.{typed, tree_is_utf8, option_at, list_at, object_at}
-use Rattle.semantics.specs.Writing.{write}
+use Rattle.semantics.specs.Trees.{Tree, text, some, ok, err, list, structure, Trees, no_trees, tree}
+use Rattle.semantics.specs.Shapes.{str_type, Field, Definition, scalar_shape, option_shape, result_shape, list_shape, array_shape, struct_shape, transparent_shape, Registry, definition_at}
+use Rattle.semantics.specs.Typed.{option_at, ok_at, err_at, item_at, object_at}
 use Rattle.semantics.specs.Places.{Choice}
 use Rattle.semantics.specs.Keys.{Declared, path_of, keys}
-use Rattle.semantics.specs.Reading.{fill, plain_layout}
-use Rattle.semantics.specs.Depths.{depth}
+use Rattle.semantics.specs.Reading.{plain_layout}
 
 -- the shapes that a definition refers to
 abbrev pub field_shapes : List Field → List ℕ
@@ -19,7 +15,9 @@ field_shapes (f ∷ fs) = f.shape ∷ field_shapes fs
 
 abbrev pub part_shapes : Definition → List ℕ
 part_shapes (option_shape s) = s ∷ []
+part_shapes (result_shape s t) = s ∷ t ∷ []
 part_shapes (list_shape s) = s ∷ []
+part_shapes (array_shape s n) = s ∷ []
 part_shapes (struct_shape s) = field_shapes s.fields
 part_shapes (transparent_shape s) = s ∷ []
 part_shapes _ = []
@@ -46,11 +44,12 @@ abbrev pub Distinct : List Declared → Type 0
 Distinct [] = Unit {0}
 Distinct (x ∷ xs) = (path_of xs x.item ≡ None) × Distinct xs
 
--- what a definition has to keep, that its values can be read back: no key twice under any choice of variants, and
--- no text that has to be borrowed
+-- What a definition has to keep, that its values can be read back: no key twice under any choice of variants, and
+-- no text that has to be borrowed. A transparent shape isn't read yet, though its values may have a document.
 abbrev pub HasNoClash : Registry → Definition → Type 0
 HasNoClash g (struct_shape s) = (c : Choice) → Distinct (keys g (plain_layout s) c)
 HasNoClash g (scalar_shape str_type) = ⊥
+HasNoClash g (transparent_shape s) = ⊥
 HasNoClash g _ = Unit {0}
 
 abbrev pub IsApart : Registry → Option Definition → Type 0
@@ -78,7 +77,9 @@ abbrev mutual
   pub Alike : Registry → ℕ → Tree → Tree → Type 0
   Alike g s (text t) w = AlikeText t w
   Alike g s (some v) w = OnPart (option_at g s) (λ i. (w' : Tree) × (w ≡ some w') × Alike g i v w')
-  Alike g s (list vs) w = OnPart (list_at g s) (λ i. (ws : Trees) × (w ≡ list ws) × EachAlike g i vs ws)
+  Alike g s (ok v) w = OnPart (ok_at g s) (λ i. (w' : Tree) × (w ≡ ok w') × Alike g i v w')
+  Alike g s (err v) w = OnPart (err_at g s) (λ i. (w' : Tree) × (w ≡ err w') × Alike g i v w')
+  Alike g s (list vs) w = OnPart (item_at g s) (λ i. (ws : Trees) × (w ≡ list ws) × EachAlike g i vs ws)
   Alike g s (structure vs) w = OnPart (object_at g s) (λ d. (ws : Trees) × (w ≡ structure ws) × FieldsAlike g d.fields vs ws)
   Alike g s v w = w ≡ v
 

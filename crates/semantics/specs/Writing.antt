@@ -2,7 +2,7 @@
 use Rattle.std.specs.Prelude.{ℕ, Bool, true, false, cond, List, [], ◌∷◌, Option, Some, None, Result, Ok, Err}
 use Rattle.semantics.specs.Trees.{Tree, unsigned, structure, Trees, no_trees, tree}
 use Rattle.semantics.specs.Shapes.{bits64, ScalarType, unsigned_type, Field, effective_name, Registry}
-use Rattle.semantics.specs.Calls.{Literal, u64_literal}
+use Rattle.semantics.specs.Calls.{u64_literal}
 use Rattle.semantics.specs.Scalars.{fits_unsigned}
 use Rattle.semantics.specs.Documents.{free, Document, plain, object, Members, no_members, member}
 use Rattle.semantics.specs.Results.{on_ok}
