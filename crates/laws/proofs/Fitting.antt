@@ -1,9 +1,8 @@
--- What a value of a checked registry is written as, permuted: numbers in their range, and keys that need no spelling.
+-- What a value of a checked registry is written as, permuted: numbers in their range, and keys that are texts.
 use Rattle.std.proofs.Common.{◌≡◌, ℕ, List, [], ◌∷◌, ◌++◌, Option, Some, None, true, ◌&&◌, Ok, refl, sym, ap, ◌∙◌, subst}
 use Rattle.std.specs.Prelude.{zero, suc, slice_get, unwrap_or}
 use Rattle.std.specs.List.{list_all, AllByRecursion as Every}
 use Rattle.std.specs.Str.{is_utf8}
-use Rattle.semantics.specs.Texts.{is_plain}
 use Rattle.semantics.specs.Trees.{Tree, unsigned, structure, Trees, no_trees, tree}
 use Rattle.semantics.specs.Shapes.{bits64, ScalarType, Field, effective_name, StructShape, struct_shape, Shape, Registry}
 use Rattle.semantics.specs.Scalars.{fits_unsigned}
@@ -19,9 +18,9 @@ use Rattle.laws.proofs.Mixes.{every_inserted}
 use Rattle.laws.proofs.Places.{put_inverted}
 use Rattle.laws.proofs.Canonical.{number_inverted, object_inverted}
 
--- a key that needs no spelling
+-- a key is a text
 abbrev pub IsKeyText : List ℕ → Type 0
-IsKeyText t = (is_plain t ≡ true) × (is_utf8 t ≡ true)
+IsKeyText t = is_utf8 t ≡ true
 
 abbrev pub FitsLiteral : Literal → Type 0
 FitsLiteral (u64_literal n) = fits_unsigned bits64 n ≡ true
@@ -72,14 +71,14 @@ names_fit (f ∷ fs) (b, all) texts =
     let (here, rest) = is_both (field_is_utf8 f) (list_all field_is_utf8 fs) texts in
     let (name, others) = is_both (is_utf8 f.name) (name_is_utf8 f.rename && name_is_utf8 f.alias) here in
     let effective : effective_name f ≡ f.name = ap (λ o. unwrap_or o f.name) b.rename in
-    ((ap is_plain effective ∙ b.plain, ap is_utf8 effective ∙ name), names_fit fs all rest)
+    (ap is_utf8 effective ∙ name, names_fit fs all rest)
 
 fields_fit : (g : Registry) → IsRegistry g → (s : ℕ) (q : StructShape) → object_at g s ≡ Some q → Every FieldFits q.fields
 fields_fit g checked s q e =
-    let at = object_defined g checked s q e in
-    let (x, found, is) = found_shape (slice_get g s) (struct_shape q) at in
-    let (name, texts) = is_both (is_utf8 x.name) (definition_is_utf8 x.definition) (shape_in g s x checked.utf8 found) in
-    names_fit q.fields (struct_built q (built g checked s (struct_shape q) at)).fields (ap definition_is_utf8 (sym is) ∙ texts)
+    let (t, at) = object_defined g s q e in
+    let (x, found, is) = found_shape (slice_get g t) (struct_shape q) at in
+    let (name, texts) = is_both (is_utf8 x.name) (definition_is_utf8 x.definition) (shape_in g t x checked.utf8 found) in
+    names_fit q.fields (struct_built q (built g checked t (struct_shape q) at)).fields (ap definition_is_utf8 (sym is) ∙ texts)
 
 module _ (g : Registry) (checked : IsRegistry g) where
   number_fits : (n : ℕ) (d : Document) (o : Option ScalarType) → of_form o (write_unsigned n) ≡ Ok d → Fits d

@@ -1,5 +1,6 @@
 pub mod Whole
 pub mod Built
+pub mod Defaulting
 pub mod Typing
 pub mod Called
 pub mod Mixes
@@ -15,8 +16,12 @@ pub mod LineLaws
 pub mod Fitting
 pub mod Taped
 pub mod Texts
+pub mod Escapes
+pub mod LineEnds
 pub mod OneTape
 pub mod Readable
+pub mod ShapeLineParts
+pub mod ShapeLineLaws
 pub mod ShapeTextLaws
 pub mod Divisions
 pub mod ShapeTextFaults

@@ -1,12 +1,12 @@
 -- A shape text has at most one first fault.
-use Rattle.std.proofs.Common.{◌≡◌, ℕ, suc, ◌+◌, ◌<◌, List, [], ◌∷◌, ◌++◌, length, Bool, true, false, Option, Some, None, refl, sym, ap, ◌∙◌, subst, arith}
-use Rattle.std.proofs.lemmas.Str.{is_utf8-from_IsUtf8, IsUtf8-from_ascii}
+use Rattle.std.proofs.Common.{◌≡◌, ℕ, suc, ◌+◌, ◌<◌, List, [], ◌∷◌, ◌++◌, length, true, false, Option, Some, None, refl, sym, ap, ◌∙◌, subst, arith, length-append}
 use Rattle.std.specs.List.{list_all}
 use Rattle.std.specs.Str.{is_utf8}
 use Rattle.semantics.specs.Shapes.{Draft}
-use Rattle.semantics.specs.Registry.{ShapeFault, ShapeFaultKind, shape_limit, fault_at, IsFirstFault}
-use Rattle.semantics.specs.ShapeText.{ShapeLine, struct_line, field_line, has_names, spelling, spelled_before, lines_before, shape_text, struct_names, shape_count, is_in_place, AreLines, all_names, is_known, shapes_of, ShapeTextKind, not_utf8, bad_line, out_of_place, unknown_ref, too_many, check, first_line, IsRefusedBehind, IsShapeTextFault, at_line, at_reference, at_struct}
-use Rattle.laws.proofs.ShapeTextLaws.{both, one_line, never_empty, low_at, spelling_low, first_of, spelling_no_end, all_behind, names_append, lines_same}
+use Rattle.semantics.specs.Registry.{ShapeFault, ShapeFaultKind, fault_at, IsFirstFault}
+use Rattle.semantics.specs.ShapeLines.{ShapeLine, head_line, item_line, field_line, variant_line, is_line}
+use Rattle.semantics.specs.ShapeText.{spelled_before, lines_before, shape_text, head_names, is_head, shape_names, Place, may_stand, first_place, place_after, AreLines, all_names, is_known, shapes_of, ShapeTextKind, not_utf8, bad_line, out_of_place, unknown_ref, too_many, check, first_line, BeginsWith, IsRefusedBehind, IsShapeTextFault, at_line, at_reference, at_head}
+use Rattle.laws.proofs.ShapeTextLaws.{both, both_ways, one_line, never_empty, spelled_is_utf8, nothing_is_utf8, all_behind, one_head, stands_there, room_there, lines_same}
 
 -- of two fronts of one text one begins with the other
 data Fronts (before after : List ShapeLine) (left right : List ℕ) : Type 0 where
@@ -19,49 +19,47 @@ add a b before after left right same (equal is at) = equal (ap (λ x. x ∷ befo
 add a b before after left right same (shorter m more is at) = shorter m more (ap (λ x. x ∷ after) (sym same) ∙ ap (λ x. a ∷ x) is) at
 add a b before after left right same (longer m more is at) = longer m more (ap (λ x. x ∷ before) same ∙ ap (λ x. b ∷ x) is) at
 
-fronts : (before after : List ShapeLine) (left right : List ℕ) → list_all has_names before ≡ true → list_all has_names after ≡ true → lines_before before left ≡ lines_before after right → Fronts before after left right
+fronts : (before after : List ShapeLine) (left right : List ℕ) → list_all is_line before ≡ true → list_all is_line after ≡ true → lines_before before left ≡ lines_before after right → Fronts before after left right
 fronts [] [] left right h k e = equal refl e
 fronts [] (b ∷ after) left right h k e = shorter b after refl e
 fronts (a ∷ before) [] left right h k e = longer a before refl (sym e)
 fronts (a ∷ before) (b ∷ after) left right h k e =
-    let ph = both (has_names a) (list_all has_names before) h in
-    let pk = both (has_names b) (list_all has_names after) k in
+    let ph = both (is_line a) (list_all is_line before) h in
+    let pk = both (is_line b) (list_all is_line after) k in
     let (same, rest) = one_line a b (lines_before before left) (lines_before after right) ph.0 pk.0 e in
     add a b before after left right same (fronts before after left right ph.1 pk.1 rest)
-
-spelled_is_utf8 : (l : ShapeLine) (rest : List ℕ) → has_names l ≡ true → is_utf8 (first_line (spelled_before l rest)) ≡ true
-spelled_is_utf8 l rest h = ap is_utf8 (first_of (spelling l) rest (spelling_no_end l h)) ∙ is_utf8-from_IsUtf8 (spelling l) (IsUtf8-from_ascii (spelling l) (low_at (spelling l) (spelling_low l h)))
-
-both_ways : (b : Bool) → b ≡ false → b ≡ true → ⊥
-both_ways b h k = absurd (let f : false ≡ true = sym h ∙ k in cc)
-
-not_in_place : (name shape : List ℕ) (more : List ShapeLine) → is_in_place (field_line name shape ∷ more) ≡ true → ⊥
-not_in_place name shape more h = absurd (let f : false ≡ true = h in cc)
 
 -- a line that stands there isn't refused
 line_stands : (before more : List ShapeLine) (m : ShapeLine) (rest : List ℕ) (kind : ShapeTextKind) → AreLines (before ++ (m ∷ more)) → IsRefusedBehind before (spelled_before m rest) kind → ⊥
 line_stands before more m rest kind good r =
-    by_kind kind (both (has_names m) (list_all has_names more) (all_behind has_names before (m ∷ more) good.names)).0 r
+    by_kind kind (both (is_line m) (list_all is_line more) (all_behind is_line before (m ∷ more) good.good)).0 r
   where
-    by_kind : (kind : ShapeTextKind) → has_names m ≡ true → IsRefusedBehind before (spelled_before m rest) kind → ⊥
+    by_kind : (kind : ShapeTextKind) → is_line m ≡ true → IsRefusedBehind before (spelled_before m rest) kind → ⊥
     by_kind not_utf8 h r = both_ways (is_utf8 (first_line (spelled_before m rest))) r (spelled_is_utf8 m rest h)
     by_kind bad_line h r = r.2 m rest h refl
     by_kind out_of_place h r =
-        let same = one_line m (field_line r.1.0 r.1.1) rest r.1.2 h r.1.3 r.1.4 in
-        not_in_place r.1.0 r.1.1 more (ap (λ x. is_in_place (x ∷ more)) (sym same.0) ∙ ap (λ x. is_in_place (x ++ (m ∷ more))) (sym r.0) ∙ good.placed)
+        let same = one_line m r.0 rest r.1.rest h r.1.good r.1.is in
+        both_ways (may_stand (place_after first_place before) r.0) r.2 (ap (may_stand (place_after first_place before)) (sym same.0) ∙ stands_there first_place before more m good.placed)
     by_kind too_many h r =
-        let same = one_line m (struct_line r.1.0) rest r.1.1 h r.1.2 r.1.3 in
-        let sum = names_append before (m ∷ more) in
-        let one : length (struct_names (m ∷ more)) ≡ length (struct_names (struct_line r.1.0 ∷ more)) = ap (λ x. length (struct_names (x ∷ more))) same.0 in
-        omega (arith, sum, one, good.few, r.0)
+        let same = one_line m r.0 rest r.1.rest h r.1.good r.1.is in
+        room_there before more m (ap is_head same.0 ∙ r.2) good.few r.3
     by_kind unknown_ref h r = r
     by_kind (check fault) h r = r
 
-placed_utf8 : (left rest : List ℕ) (l : ShapeLine) → has_names l ≡ true → left ≡ spelled_before l rest → is_utf8 (first_line left) ≡ true
-placed_utf8 left rest l h e = ap (λ x. is_utf8 (first_line x)) e ∙ spelled_is_utf8 l rest h
+placed_utf8 : (left : List ℕ) (l : ShapeLine) → BeginsWith left l → is_utf8 (first_line left) ≡ true
+placed_utf8 left l b = ap (λ x. is_utf8 (first_line x)) b.is ∙ spelled_is_utf8 l b.rest b.good
 
-full_is_some : (before : List ShapeLine) → before ≡ [] → shape_count before ≡ shape_limit → ⊥
-full_is_some before none full = omega (arith, full, ap shape_count none)
+-- a line with which a shape begins may stand anywhere
+head_stands : (p : Place) (l : ShapeLine) → is_head l ≡ true → may_stand p l ≡ true
+head_stands p (head_line name head) h = refl
+head_stands p (item_line shape) h = absurd (let f : false ≡ true = h in cc)
+head_stands p (field_line f) h = absurd (let f : false ≡ true = h in cc)
+head_stands p (variant_line v) h = absurd (let f : false ≡ true = h in cc)
+
+no_head : (before : List ShapeLine) (l m : ShapeLine) (left : List ℕ) → BeginsWith left l → BeginsWith left m → may_stand (place_after first_place before) l ≡ false → is_head m ≡ true → ⊥
+no_head before l m left b c r h =
+    let same = one_line l m b.rest c.rest b.good c.good (sym b.is ∙ c.is) in
+    both_ways (may_stand (place_after first_place before) l) r (head_stands (place_after first_place before) l (ap is_head same.0 ∙ h))
 
 -- what is left is refused for one reason
 kinds_same : (before : List ShapeLine) (left : List ℕ) (kind other : ShapeTextKind) → IsRefusedBehind before left kind → IsRefusedBehind before left other → kind ≡ other
@@ -69,25 +67,25 @@ kinds_same before left unknown_ref other r s = absurd r
 kinds_same before left (check fault) other r s = absurd r
 kinds_same before left not_utf8 not_utf8 r s = refl
 kinds_same before left not_utf8 bad_line r s = absurd (both_ways (is_utf8 (first_line left)) r s.1)
-kinds_same before left not_utf8 out_of_place r s = absurd (both_ways (is_utf8 (first_line left)) r (placed_utf8 left s.1.2 (field_line s.1.0 s.1.1) s.1.3 s.1.4))
-kinds_same before left not_utf8 too_many r s = absurd (both_ways (is_utf8 (first_line left)) r (placed_utf8 left s.1.1 (struct_line s.1.0) s.1.2 s.1.3))
+kinds_same before left not_utf8 out_of_place r s = absurd (both_ways (is_utf8 (first_line left)) r (placed_utf8 left s.0 s.1))
+kinds_same before left not_utf8 too_many r s = absurd (both_ways (is_utf8 (first_line left)) r (placed_utf8 left s.0 s.1))
 kinds_same before left not_utf8 unknown_ref r s = absurd s
 kinds_same before left not_utf8 (check fault) r s = absurd s
 kinds_same before left bad_line not_utf8 r s = absurd (both_ways (is_utf8 (first_line left)) s r.1)
 kinds_same before left bad_line bad_line r s = refl
-kinds_same before left bad_line out_of_place r s = absurd (r.2 (field_line s.1.0 s.1.1) s.1.2 s.1.3 s.1.4)
-kinds_same before left bad_line too_many r s = absurd (r.2 (struct_line s.1.0) s.1.1 s.1.2 s.1.3)
+kinds_same before left bad_line out_of_place r s = absurd (r.2 s.0 s.1.rest s.1.good s.1.is)
+kinds_same before left bad_line too_many r s = absurd (r.2 s.0 s.1.rest s.1.good s.1.is)
 kinds_same before left bad_line unknown_ref r s = absurd s
 kinds_same before left bad_line (check fault) r s = absurd s
-kinds_same before left out_of_place not_utf8 r s = absurd (both_ways (is_utf8 (first_line left)) s (placed_utf8 left r.1.2 (field_line r.1.0 r.1.1) r.1.3 r.1.4))
-kinds_same before left out_of_place bad_line r s = absurd (s.2 (field_line r.1.0 r.1.1) r.1.2 r.1.3 r.1.4)
+kinds_same before left out_of_place not_utf8 r s = absurd (both_ways (is_utf8 (first_line left)) s (placed_utf8 left r.0 r.1))
+kinds_same before left out_of_place bad_line r s = absurd (s.2 r.0 r.1.rest r.1.good r.1.is)
 kinds_same before left out_of_place out_of_place r s = refl
-kinds_same before left out_of_place too_many r s = absurd (full_is_some before r.0 s.0)
+kinds_same before left out_of_place too_many r s = absurd (no_head before r.0 s.0 left r.1 s.1 r.2 s.2)
 kinds_same before left out_of_place unknown_ref r s = absurd s
 kinds_same before left out_of_place (check fault) r s = absurd s
-kinds_same before left too_many not_utf8 r s = absurd (both_ways (is_utf8 (first_line left)) s (placed_utf8 left r.1.1 (struct_line r.1.0) r.1.2 r.1.3))
-kinds_same before left too_many bad_line r s = absurd (s.2 (struct_line r.1.0) r.1.1 r.1.2 r.1.3)
-kinds_same before left too_many out_of_place r s = absurd (full_is_some before s.0 r.0)
+kinds_same before left too_many not_utf8 r s = absurd (both_ways (is_utf8 (first_line left)) s (placed_utf8 left r.0 r.1))
+kinds_same before left too_many bad_line r s = absurd (s.2 r.0 r.1.rest r.1.good r.1.is)
+kinds_same before left too_many out_of_place r s = absurd (no_head before s.0 r.0 left s.1 r.1 s.2 r.2)
 kinds_same before left too_many too_many r s = refl
 kinds_same before left too_many unknown_ref r s = absurd s
 kinds_same before left too_many (check fault) r s = absurd s
@@ -95,7 +93,7 @@ kinds_same before left too_many (check fault) r s = absurd s
 -- two faults of lines are one
 two_lines : (before after : List ShapeLine) (left right : List ℕ) (kind other : ShapeTextKind) → lines_before before left ≡ lines_before after right → AreLines before → AreLines after
     → IsRefusedBehind before left kind → IsRefusedBehind after right other → (length before + 1 ≡ length after + 1) × (kind ≡ other)
-two_lines before after left right kind other e good fine r s = by_fronts (fronts before after left right good.names fine.names e)
+two_lines before after left right kind other e good fine r s = by_fronts (fronts before after left right good.good fine.good e)
   where
     by_fronts : Fronts before after left right → (length before + 1 ≡ length after + 1) × (kind ≡ other)
     by_fronts (equal is at) =
@@ -104,16 +102,16 @@ two_lines before after left right kind other e good fine r s = by_fronts (fronts
     by_fronts (longer m more is at) = absurd (line_stands after more m (lines_before more left) other (subst (λ (x : List ShapeLine). AreLines x) is good) (subst (λ (x : List ℕ). IsRefusedBehind after x other) at s))
 
 nothing_left : (before : List ShapeLine) (kind : ShapeTextKind) → IsRefusedBehind before [] kind → ⊥
-nothing_left before not_utf8 r = both_ways (is_utf8 []) r (is_utf8-from_IsUtf8 [] (IsUtf8-from_ascii [] (low_at [] tt)))
+nothing_left before not_utf8 r = both_ways (is_utf8 []) r nothing_is_utf8
 nothing_left before bad_line r = r.0 refl
-nothing_left before out_of_place r = never_empty (field_line r.1.0 r.1.1) r.1.2 (sym r.1.4)
-nothing_left before too_many r = never_empty (struct_line r.1.0) r.1.1 (sym r.1.3)
+nothing_left before out_of_place r = never_empty r.0 r.1.rest (sym r.1.is)
+nothing_left before too_many r = never_empty r.0 r.1.rest (sym r.1.is)
 nothing_left before unknown_ref r = r
 nothing_left before (check fault) r = r
 
 -- a text of lines has no fault of a line
 no_line : (before ls : List ShapeLine) (left : List ℕ) (kind : ShapeTextKind) → lines_before before left ≡ shape_text ls → AreLines before → AreLines ls → IsRefusedBehind before left kind → ⊥
-no_line before ls left kind e good fine r = by_fronts (fronts before ls left [] good.names fine.names e)
+no_line before ls left kind e good fine r = by_fronts (fronts before ls left [] good.good fine.good e)
   where
     by_fronts : Fronts before ls left [] → ⊥
     by_fronts (equal is at) = nothing_left before kind (subst (λ (x : List ℕ). IsRefusedBehind before x kind) at r)
@@ -134,21 +132,20 @@ two_unknown names (x ∷ a) b (y ∷ c) d l m e ha hc hl hm =
     let rest : a ++ (l ∷ b) ≡ c ++ (m ∷ d) = cc in
     ap (λ n. suc n) (two_unknown names a b c d l m rest (both (is_known names x) (list_all (is_known names) a) ha).1 (both (is_known names y) (list_all (is_known names) c) hc).1 hl hm)
 
--- the struct of one number is at one place
-two_structs : (a b c d : List ShapeLine) (n m : List ℕ) → a ++ (struct_line n ∷ b) ≡ c ++ (struct_line m ∷ d) → length (struct_names a) ≡ length (struct_names c) → length a ≡ length c
-two_structs [] b [] d n m e h = refl
-two_structs [] b (struct_line x ∷ c) d n m e h = absurd (omega arith)
-two_structs [] b (field_line x y ∷ c) d n m e h = absurd (let first : struct_line n ≡ field_line x y = cc in cc)
-two_structs (struct_line x ∷ a) b [] d n m e h = absurd (omega arith)
-two_structs (field_line x y ∷ a) b [] d n m e h = absurd (let first : field_line x y ≡ struct_line m = cc in cc)
-two_structs (struct_line x ∷ a) b (struct_line y ∷ c) d n m e h =
-    let rest : a ++ (struct_line n ∷ b) ≡ c ++ (struct_line m ∷ d) = cc in
-    ap (λ k. suc k) (two_structs a b c d n m rest (omega (arith, h)))
-two_structs (field_line x y ∷ a) b (field_line z w ∷ c) d n m e h =
-    let rest : a ++ (struct_line n ∷ b) ≡ c ++ (struct_line m ∷ d) = cc in
-    ap (λ k. suc k) (two_structs a b c d n m rest h)
-two_structs (struct_line x ∷ a) b (field_line z w ∷ c) d n m e h = absurd (let first : struct_line x ≡ field_line z w = cc in cc)
-two_structs (field_line x y ∷ a) b (struct_line z ∷ c) d n m e h = absurd (let first : field_line x y ≡ struct_line z = cc in cc)
+-- the head of one number is at one place
+two_heads : (a b c d : List ShapeLine) (l m : ShapeLine) → a ++ (l ∷ b) ≡ c ++ (m ∷ d) → is_head l ≡ true → is_head m ≡ true → length (shape_names a) ≡ length (shape_names c) → length a ≡ length c
+two_heads [] b [] d l m e hl hm h = refl
+two_heads [] b (x ∷ c) d l m e hl hm h =
+    let first : l ≡ x = cc in
+    absurd (omega (arith, h, one_head x (ap is_head (sym first) ∙ hl), length-append (head_names x) (shape_names c)))
+two_heads (x ∷ a) b [] d l m e hl hm h =
+    let first : x ≡ m = cc in
+    absurd (omega (arith, h, one_head x (ap is_head first ∙ hm), length-append (head_names x) (shape_names a)))
+two_heads (x ∷ a) b (y ∷ c) d l m e hl hm h =
+    let first : x ≡ y = cc in
+    let rest : a ++ (l ∷ b) ≡ c ++ (m ∷ d) = cc in
+    let names : length (shape_names a) ≡ length (shape_names c) = omega (arith, h, length-append (head_names x) (shape_names a), length-append (head_names y) (shape_names c), ap (λ z. length (head_names z)) first) in
+    ap (λ k. suc k) (two_heads a b c d l m rest hl hm names)
 
 none_some : (k : ShapeFaultKind) → ◌≡◌ {A = Option ShapeFaultKind} None (Some k) → ⊥
 none_some k h = cc
@@ -179,23 +176,23 @@ pub one_fault : (text : List ℕ) (line other : ℕ) (kind also : ShapeTextKind)
 one_fault text line other kind also (at_line a x wa ga ra na) (at_line b y wb gb rb nb) =
     let s = two_lines a b x y kind also (sym wa ∙ wb) ga gb ra rb in (na ∙ s.0 ∙ sym nb, s.1)
 one_fault text line other kind also (at_line a x wa ga ra na) (at_reference b c l names wb gb named known unknown nb is) = absurd (no_line a (b ++ (l ∷ c)) x kind (sym wa ∙ wb) ga gb ra)
-one_fault text line other kind also (at_line a x wa ga ra na) (at_struct b c n fault wb gb known first at nb is) = absurd (no_line a (b ++ (struct_line n ∷ c)) x kind (sym wa ∙ wb) ga gb ra)
+one_fault text line other kind also (at_line a x wa ga ra na) (at_head b c l fault wb gb known first head at nb is) = absurd (no_line a (b ++ (l ∷ c)) x kind (sym wa ∙ wb) ga gb ra)
 one_fault text line other kind also (at_reference b c l names wb gb named known unknown nb is) (at_line a x wa ga ra na) = absurd (no_line a (b ++ (l ∷ c)) x also (sym wa ∙ wb) ga gb ra)
-one_fault text line other kind also (at_struct b c n fault wb gb known first at nb is) (at_line a x wa ga ra na) = absurd (no_line a (b ++ (struct_line n ∷ c)) x also (sym wa ∙ wb) ga gb ra)
+one_fault text line other kind also (at_head b c l fault wb gb known first head at nb is) (at_line a x wa ga ra na) = absurd (no_line a (b ++ (l ∷ c)) x also (sym wa ∙ wb) ga gb ra)
 one_fault text line other kind also (at_reference a b l names wa ga named known unknown na is) (at_reference c d m others wb gb called met unmet nb also_is) =
-    let same = lines_same (a ++ (l ∷ b)) (c ++ (m ∷ d)) ga.names gb.names (sym wa ∙ wb) in
+    let same = lines_same (a ++ (l ∷ b)) (c ++ (m ∷ d)) ga.good gb.good (sym wa ∙ wb) in
     let one : others ≡ names = called ∙ ap all_names (sym same) ∙ sym named in
     let place = two_unknown names a b c d l m same known (ap (λ x. list_all (is_known x) c) (sym one) ∙ met) unknown (ap (λ x. is_known x m) (sym one) ∙ unmet) in
     (na ∙ ap (λ x. x + 1) place ∙ sym nb, is ∙ sym also_is)
-one_fault text line other kind also (at_reference a b l names wa ga named known unknown na is) (at_struct c d m fault wb gb all first at nb also_is) =
-    let same = lines_same (a ++ (l ∷ b)) (c ++ (struct_line m ∷ d)) ga.names gb.names (sym wa ∙ wb) in
-    absurd (no_reference (a ++ (l ∷ b)) (c ++ (struct_line m ∷ d)) a b l names same refl named unknown all)
-one_fault text line other kind also (at_struct c d m fault wb gb all first at nb also_is) (at_reference a b l names wa ga named known unknown na is) =
-    let same = lines_same (a ++ (l ∷ b)) (c ++ (struct_line m ∷ d)) ga.names gb.names (sym wa ∙ wb) in
-    absurd (no_reference (a ++ (l ∷ b)) (c ++ (struct_line m ∷ d)) a b l names same refl named unknown all)
-one_fault text line other kind also (at_struct a b n f wa ga ka fa sa na is) (at_struct c d m g wb gb kb fb sb nb also_is) =
-    let same = lines_same (a ++ (struct_line n ∷ b)) (c ++ (struct_line m ∷ d)) ga.names gb.names (sym wa ∙ wb) in
-    let fault = two_rules (shapes_of (a ++ (struct_line n ∷ b))) f g fa (subst (λ (x : List ShapeLine). IsFirstFault (shapes_of x) g) (sym same) fb) in
-    let count : length (struct_names a) ≡ length (struct_names c) = omega (arith, sa, sb, ap (λ (x : ShapeFault). x.shape) fault) in
-    let place = two_structs a b c d n m same count in
+one_fault text line other kind also (at_reference a b l names wa ga named known unknown na is) (at_head c d m fault wb gb all first head at nb also_is) =
+    let same = lines_same (a ++ (l ∷ b)) (c ++ (m ∷ d)) ga.good gb.good (sym wa ∙ wb) in
+    absurd (no_reference (a ++ (l ∷ b)) (c ++ (m ∷ d)) a b l names same refl named unknown all)
+one_fault text line other kind also (at_head c d m fault wb gb all first head at nb also_is) (at_reference a b l names wa ga named known unknown na is) =
+    let same = lines_same (a ++ (l ∷ b)) (c ++ (m ∷ d)) ga.good gb.good (sym wa ∙ wb) in
+    absurd (no_reference (a ++ (l ∷ b)) (c ++ (m ∷ d)) a b l names same refl named unknown all)
+one_fault text line other kind also (at_head a b l f wa ga ka fa ha sa na is) (at_head c d m g wb gb kb fb hb sb nb also_is) =
+    let same = lines_same (a ++ (l ∷ b)) (c ++ (m ∷ d)) ga.good gb.good (sym wa ∙ wb) in
+    let fault = two_rules (shapes_of (a ++ (l ∷ b))) f g fa (subst (λ (x : List ShapeLine). IsFirstFault (shapes_of x) g) (sym same) fb) in
+    let count : length (shape_names a) ≡ length (shape_names c) = omega (arith, sa, sb, ap (λ (x : ShapeFault). x.shape) fault) in
+    let place = two_heads a b c d l m same ha hb count in
     (na ∙ ap (λ x. x + 1) place ∙ sym nb, is ∙ ap check fault ∙ sym also_is)

@@ -1,5 +1,5 @@
 -- The tape of such a form is the tape of its events.
-use Rattle.std.proofs.Common.{◌≡◌, ℕ, ◌+◌, ◌<◌, ◌^◌, List, [], ◌∷◌, ◌++◌, length, map, Some, None, true, cond, not, ◌&&◌, codes, refl, ap, ap₂, ◌∙◌, append_assoc, arith}
+use Rattle.std.proofs.Common.{◌≡◌, ℕ, ◌+◌, ◌<◌, ◌^◌, List, [], ◌∷◌, ◌++◌, length, map, Some, None, true, cond, codes, refl, ap, ap₂, ◌∙◌, append_assoc, arith}
 use Rattle.std.proofs.lemmas.Bool.Decides.{nat_tests}
 use Rattle.std.proofs.lemmas.Fmt.{IsAscii-decimal}
 use Rattle.std.proofs.lemmas.Str.{IsUtf8-append, IsUtf8-from_ascii, IsUtf8-from_is_utf8, is_utf8-from_IsUtf8}
@@ -8,7 +8,6 @@ use Rattle.std.specs.List.{flat_map, AllByRecursion as Every}
 use Rattle.std.specs.Char.{encode_utf8}
 use Rattle.std.specs.Fmt.{decimal}
 use Rattle.std.specs.Str.{chars, is_utf8}
-use Rattle.semantics.specs.Texts.{is_special, is_plain}
 use Rattle.semantics.specs.Shapes.{bits64}
 use Rattle.semantics.specs.Scalars.{fits_unsigned}
 use Rattle.semantics.specs.Calls.{u64_literal}
@@ -16,7 +15,7 @@ use Rattle.semantics.specs.Events.{Span, Note, no_note, u64, scalar, named, key,
 use Rattle.semantics.specs.Documents.{Document, plain, sequence, object, Members, no_members, member, on_tape, scalar_event, key_event, document_events, members_events}
 use Rattle.semantics.specs.Lines.{escape, quoted, after, number, line_of, IsLineOf}
 use Rattle.semantics.specs.Tapes.{ended, tape, document_tape, line_span, IsTapeFrom, IsTape}
-use Rattle.laws.proofs.Typing.{is_both}
+use Rattle.laws.proofs.Escapes.{spelled_text}
 use Rattle.laws.proofs.Fitting.{IsKeyText, Fits, MembersFit}
 
 -- the event has a line, wherever it stands
@@ -54,19 +53,8 @@ joined_text xs ys p q = is_utf8-from_IsUtf8 (xs ++ ys) (IsUtf8-append xs ys (IsU
 number_text : (n : ℕ) → n < 2 ^ 64 → is_utf8 (codes "u " ++ decimal n) ≡ true
 number_text n less = joined_text (codes "u ") (decimal n) number_front (is_utf8-from_IsUtf8 (decimal n) (IsUtf8-from_ascii (decimal n) (IsAscii-decimal n less)))
 
-plain_byte : (b : ℕ) → not (is_special b) ≡ true → escape b ≡ b ∷ []
-plain_byte b e = grind (arith, nat_tests)
-
--- a plain text is spelled as it stands
-plain_spelled : (t : List ℕ) → is_plain t ≡ true → flat_map escape t ≡ t
-plain_spelled [] e = refl
-plain_spelled (b ∷ t) e =
-    let (here, rest) = is_both (not (is_special b)) (is_plain t) e in
-    ap₂ (λ x y. x ++ y) (plain_byte b here) (plain_spelled t rest)
-
 key_text : (t : List ℕ) → IsKeyText t → is_utf8 (codes "k " ++ quoted t) ≡ true
-key_text t (unspelled, text) =
-    ap (λ x. is_utf8 (codes "k \"" ++ (x ++ codes "\""))) (plain_spelled t unspelled) ∙ joined_text (codes "k \"") (t ++ codes "\"") key_front (joined_text t (codes "\"") text quote)
+key_text t text = joined_text (codes "k \"") (flat_map escape t ++ codes "\"") key_front (joined_text (flat_map escape t) (codes "\"") (spelled_text t text) quote)
 
 in_range : (n : ℕ) → fits_unsigned bits64 n ≡ true → n < 2 ^ 64
 in_range n fits = grind (arith, nat_tests)
@@ -77,21 +65,21 @@ number_line n fits =
     record {
       line = codes "u " ++ decimal n;
       spelled = spelled;
-      at = λ s. (leaf (scalar (u64 n) (placed_note s)), record { spelled = spelled; texts = (tt, tt); read = refl; utf8 = number_text n (in_range n fits) }, refl, refl);
+      at = λ s. (leaf (scalar (u64 n) (placed_note s)), record { spelled = spelled; texts = (tt, tt); utf8 = number_text n (in_range n fits) }, refl, refl);
     }
 
 key_line : (t : List ℕ) → IsKeyText t → HasLine (key_event t)
 key_line t is = record {
   line = codes "k " ++ quoted t;
   spelled = refl;
-  at = λ s. (leaf (key (named (on_tape t) None (placed_note s))), record { spelled = refl; texts = (refl, tt); read = ap (λ b. b && true) is.0; utf8 = key_text t is }, refl, refl);
+  at = λ s. (leaf (key (named (on_tape t) None (placed_note s))), record { spelled = refl; texts = (refl, tt); utf8 = key_text t is }, refl, refl);
 }
 
 start_line : HasLine (start of_struct object_kind no_note)
-start_line = record { line = codes "{"; spelled = refl; at = λ s. (start of_struct object_kind (placed_note s), record { spelled = refl; texts = tt; read = refl; utf8 = start_text }, refl, refl) }
+start_line = record { line = codes "{"; spelled = refl; at = λ s. (start of_struct object_kind (placed_note s), record { spelled = refl; texts = tt; utf8 = start_text }, refl, refl) }
 
 stop_line : HasLine (stop of_struct no_note)
-stop_line = record { line = codes "}"; spelled = refl; at = λ s. (stop of_struct (placed_note s), record { spelled = refl; texts = tt; read = refl; utf8 = stop_text }, refl, refl) }
+stop_line = record { line = codes "}"; spelled = refl; at = λ s. (stop of_struct (placed_note s), record { spelled = refl; texts = tt; utf8 = stop_text }, refl, refl) }
 
 every_appended : {A : Type 0} (P : A → Type 0) (xs ys : List A) → Every P xs → Every P ys → Every P (xs ++ ys)
 every_appended P [] ys all more = more

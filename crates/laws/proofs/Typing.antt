@@ -1,13 +1,13 @@
 -- What is read is of its shape.
-use Rattle.std.proofs.Common.{◌≡◌, ℕ, zero, suc, List, [], ◌∷◌, Option, Some, None, Bool, true, false, cond, not, ◌&&◌, length, option_map, option_and_then, refl, sym, ap, ap₂, ◌∙◌}
+use Rattle.std.proofs.Common.{◌≡◌, ℕ, zero, suc, List, [], ◌∷◌, Option, Some, None, Bool, true, false, cond, not, ◌&&◌, length, option_map, option_and_then, refl, sym, ap, ◌∙◌}
 use Rattle.std.specs.List.{AllByRecursion as Every}
-use Rattle.semantics.specs.Trees.{Tree, unsigned, structure, Trees, no_trees, tree}
+use Rattle.semantics.specs.Trees.{Tree, unsigned, none, structure, Trees, no_trees, tree}
 use Rattle.semantics.specs.Shapes.{bits64, ScalarType, unsigned_type, is_named, Field, Definition, scalar_shape, option_shape, struct_shape, Registry, definition_at}
 use Rattle.semantics.specs.Scalars.{fits_unsigned}
 use Rattle.semantics.specs.Registry.{is_unbuilt, IsRegistry}
 use Rattle.semantics.specs.Events.{Scalar, u64, of_struct}
 use Rattle.semantics.specs.Runs.{Run, one, group, tagged, Entry, entries}
-use Rattle.semantics.specs.Typed.{on_some, scalar_of, struct_of, scalar_at, struct_at, takes_unsigned, typed, fields_typed}
+use Rattle.semantics.specs.Typed.{on_some, scalar_of, option_of, struct_of, scalar_at, struct_at, takes_unsigned, typed, fields_typed}
 use Rattle.semantics.specs.Writing.{is_u64}
 use Rattle.semantics.specs.Places.{At, below, has_whole, Choice}
 use Rattle.semantics.specs.Keys.{Layout, plan_of, placed, are_allowed}
@@ -43,20 +43,17 @@ trees_inverted (Some v) (Some vs) ws e = (v, vs, refl, refl, cc)
 abbrev pub FillIsTyped : Registry → Field → Type 0
 FillIsTyped g f = (v : Tree) → fill g f ≡ Some v → typed g f.shape v ≡ true
 
-not_absent : (o : Option Definition) (d : Definition) → o ≡ Some d → is_unbuilt d ≡ false → absent o ≡ None
-not_absent o (option_shape s) e fine = absurd cc
-not_absent o _ e fine = ap absent e
+-- an option that is absent holds nothing
+absent_typed : (g : Registry) (s : ℕ) (d : Option Definition) (v : Tree) → definition_at g s ≡ d → absent d ≡ Some v → typed g s v ≡ true
+absent_typed g s None v at e = absurd cc
+absent_typed g s (Some (option_shape t)) v at e =
+    let is : none ≡ v = cc in
+    ap (typed g s) (sym is) ∙ ap (λ o. on_some (option_and_then option_of o) (λ i. true)) (base_is g s (option_shape t) at refl)
+absent_typed g s (Some _) v at e = absurd cc
 
-nothing_absent : (g : Registry) → IsRegistry g → (s : ℕ) → absent (definition_at g s) ≡ None
-nothing_absent g checked s = by_case (definition_at g s) refl
-  where
-    by_case : (o : Option Definition) → definition_at g s ≡ o → absent o ≡ None
-    by_case None e = refl
-    by_case (Some d) e = not_absent (Some d) d refl (built g checked s d e)
-
--- nothing stands for a field that has no entry
-pub no_fill : (g : Registry) → IsRegistry g → (f : Field) → BuiltField f → fill g f ≡ None
-no_fill g checked f b = ap₂ or_value b.default (nothing_absent g checked f.shape)
+-- without a declared default, what stands for an absent field is that of its shape
+pub fill_typed : (g : Registry) (f : Field) → BuiltField f → FillIsTyped g f
+fill_typed g f b v e = absent_typed g f.shape (definition_at g f.shape) v refl (sym (ap (λ o. or_value o (absent (definition_at g f.shape))) b.default) ∙ e)
 
 module _ (g : Registry) {A : Type 0} (rd : Parts A) (parts : (s : ℕ) (x : A) (v : Tree) → rd.value_of s x ≡ Some v → typed g s v ≡ true) where
   own_typed : (f : Field) → FillIsTyped g f → (xs : List (At A)) (v : Tree) → read_own g rd f xs ≡ Some v → typed g f.shape v ≡ true
@@ -111,22 +108,19 @@ struct_inverted g rd c deny l es v e =
 module _ (g : Setting) (checked : IsRegistry g.registry) (rd : Reader) (parts : (s : ℕ) (source : Source) (r : Run) (v : Tree) → rd s source r ≡ Some v → typed g.registry s v ≡ true) where
   filled : (fs : List Field) → Every BuiltField fs → Every (λ f. (f.flattened ≡ false) × FillIsTyped g.registry f) fs
   filled [] all = tt
-  filled (f ∷ fs) (b, all) = ((b.flattened, (λ v e. none_filled v (sym (no_fill g.registry checked f b) ∙ e))), filled fs all)
-    where
-      none_filled : (v : Tree) → None ≡ Some v → typed g.registry f.shape v ≡ true
-      none_filled v e = absurd cc
+  filled (f ∷ fs) (b, all) = ((b.flattened, fill_typed g.registry f b), filled fs all)
 
   step_typed : (s : ℕ) (source : Source) (r : Run) (d : Definition) → definition_at g.registry s ≡ Some d → is_unbuilt d ≡ false → (v : Tree) → read_as g rd source d r ≡ Some v → typed g.registry s v ≡ true
   step_typed s source r (scalar_shape t) e fine v is =
       let (n, type, fits, value) = scalar_inverted t r v is in
-      let at : scalar_at g.registry s ≡ Some t = ap (option_and_then scalar_of) (base_is g.registry s (scalar_shape t) e fine) in
+      let at : scalar_at g.registry s ≡ Some t = ap (option_and_then scalar_of) (base_is g.registry s (scalar_shape t) e refl) in
       ap (typed g.registry s) value ∙ ap (λ o. on_some o (takes_unsigned n)) at ∙ ap (takes_unsigned n) type ∙ fits
   step_typed s source r (struct_shape sh) e fine v is =
       let b = struct_built sh fine in
       let (named, object) = if_true (is_named sh.kind) (read_object (read_struct g.registry rd [] sh.deny (plain_layout sh)) r) v is in
       let (es, mean) = object_read (read_struct g.registry rd [] sh.deny (plain_layout sh)) r v object in
       let (xs, vs, read_all, value) = struct_inverted g.registry rd [] sh.deny (plain_layout sh) es v mean in
-      let at : struct_at g.registry s ≡ Some sh = ap (option_and_then struct_of) (base_is g.registry s (struct_shape sh) e fine) in
+      let at : struct_at g.registry s ≡ Some sh = ap (option_and_then struct_of) (base_is g.registry s (struct_shape sh) e refl) in
       ap (typed g.registry s) (sym value) ∙ ap (λ o. on_some o (λ d. fields_typed g.registry d.fields vs)) at
       ∙ fields_are_typed g.registry (by_run rd) (λ s x v h. parts s _ x.run v h) (read_flat g.registry (by_run rd) (length g.registry)) false [] 0 sh.fields xs vs (filled sh.fields b.fields) read_all
   step_typed s source r _ e fine v is = absurd cc

@@ -1,9 +1,11 @@
 -- What holds of the definitions.
-use Rattle.std.specs.Prelude.{◌≡◌, ℕ, ◌≤◌, List, ◌++◌, map, true, false, Some, Ok, IsTrue, MatchResult}
+use Rattle.std.specs.Prelude.{◌≡◌, ◌↔◌, ℕ, ◌≤◌, List, ◌++◌, map, true, false, Some, Ok, IsTrue, MatchResult}
 use Rattle.semantics.specs.Trees.{Tree}
 use Rattle.semantics.specs.Shapes.{Registry}
 use Rattle.semantics.specs.Shapes.{Draft}
 use Rattle.semantics.specs.Divided.{joined, IsDivided}
+use Rattle.semantics.specs.ShapeLines.{ShapeLine, spelling, has_parts}
+use Rattle.laws.specs.ShapeLineReading.{line_of as shape_line_of}
 use Rattle.semantics.specs.ShapeText.{IsShapeText, ShapeTextKind, IsShapeTextFault}
 use Rattle.semantics.specs.Registry.{IsRegistry}
 use Rattle.semantics.specs.Events.{Event, content_of, unplaced}
@@ -11,6 +13,7 @@ use Rattle.semantics.specs.Runs.{Run, run_events}
 use Rattle.semantics.specs.Lines.{line_of}
 use Rattle.semantics.specs.Documents.{Document, Permuted, document_events}
 use Rattle.semantics.specs.Typed.{typed, tree_is_utf8}
+use Rattle.semantics.specs.Defaults.{default_at}
 use Rattle.semantics.specs.Writing.{write}
 use Rattle.semantics.specs.Calling.{Writer, calls_of}
 use Rattle.semantics.specs.Reading.{Setting, Source, from_events, read, Reads}
@@ -36,6 +39,10 @@ OneValue = (g : Setting) (depth shape : ℕ) (source : Source) (events : List Ev
 abbrev pub ReadsTyped : Type 0
 ReadsTyped = (g : Setting) → IsRegistry g.registry → (depth shape : ℕ) (source : Source) (run : Run) (value : Tree)
     → read g depth shape source run ≡ Some value → IsTrue (typed g.registry shape value)
+
+-- The default of a shape of a checked registry is of that shape.
+abbrev pub DefaultIsTyped : Type 0
+DefaultIsTyped = (g : Registry) → IsRegistry g → (shape : ℕ) (value : Tree) → default_at g shape ≡ Some value → IsTrue (typed g shape value)
 
 -- The calls of a value come to their end exactly where it has a form, under any settings, and then their tape is the
 -- form's.
@@ -104,6 +111,11 @@ FormIsValid = (g : Registry) (root budget : ℕ) (value : Tree) (document : Docu
 abbrev pub OneShapeText : Type 0
 OneShapeText = (text : List ℕ) (a : List Draft) → IsShapeText text a
     → ((b : List Draft) → IsShapeText text b → a ≡ b) × ((line : ℕ) (kind : ShapeTextKind) → IsShapeTextFault text line kind → ⊥)
+
+-- A line of a shape text has one spelling, is spelled by no other line, and is read from the left as what it says.
+abbrev pub OneShapeLine : Type 0
+OneShapeLine = ((l m : ShapeLine) → IsTrue (has_parts l) → IsTrue (has_parts m) → spelling l ≡ spelling m → l ≡ m)
+    × ((text : List ℕ) (l : ShapeLine) → (shape_line_of text ≡ Some l) ↔ (IsTrue (has_parts l) × (text ≡ spelling l)))
 
 -- An input is divided into one shape text and one tape.
 abbrev pub OneDivision : Type 0

@@ -6,12 +6,14 @@
 ghost use Rattle.laws.specs.Laws.{
   CallsWrite,
   CanonicalForms,
+  DefaultIsTyped,
   FormIsValid,
   FormsAreTapes,
   OneDivision,
   OneEvent,
   OneOutput,
   OneRun,
+  OneShapeLine,
   OneShapeText,
   OneShapeTextFault,
   OneTape,
@@ -52,6 +54,11 @@ pub fn reads_typed()
     ensures { ReadsTyped }
 {}
 
+/// The default of a shape of a checked registry is a value of that shape.
+pub fn default_is_typed()
+    ensures { DefaultIsTyped }
+{}
+
 /// The calls of a value are all of its written form, under any settings of the serializer: they come to their end
 /// exactly where there is a form, and their tape is its tape.
 pub fn calls_write()
@@ -86,6 +93,11 @@ pub fn recodes_to_form()
 /// The tape of a value's own form is valid, so that it is recoded to itself.
 pub fn form_is_valid()
     ensures { FormIsValid }
+{}
+
+/// A line of a shape text is spelled in one way, and read as what it says.
+pub fn one_shape_line()
+    ensures { OneShapeLine }
 {}
 
 /// A shape text has one meaning.
