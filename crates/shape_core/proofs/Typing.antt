@@ -1,8 +1,8 @@
 -- Steps of the walks through transparent shapes, and over fields and values.
-use Rattle.std.proofs.Common.{◌≡◌, ℕ, zero, suc, ◌+◌, ◌-◌, ◌<◌, ◌≤◌, List, [], ◌∷◌, length, drop, map, Option, Some, refl, ◌∙◌, arith, nat_eq}
+use Rattle.std.proofs.Common.{◌≡◌, ℕ, zero, suc, ◌+◌, ◌-◌, ◌<◌, ◌≤◌, List, [], ◌∷◌, length, drop, map, Option, Some, refl, ap, ◌∙◌, arith, nat_eq}
 use Rattle.std.specs.Option.{option_map_or}
 use Rattle.std.proofs.Math.Dec.{eqb-suc-zero, eqb-suc-suc}
-use Rattle.semantics.specs.Trees.{trees_of}
+use Rattle.semantics.specs.Trees.{trees_of, tree_count}
 use Rattle.semantics.specs.Shapes.{Registry, Definition, definition_at, scalar_shape, option_shape, result_shape, list_shape, array_shape, set_shape, map_shape, struct_shape, enum_shape, transparent_shape}
 use Rattle.semantics.specs.Typed.{through, base_within, fields_typed}
 use Rattle.shape_core.specs.Base.{transparent_of}
@@ -30,6 +30,11 @@ pub base_step : (g : Registry) (n k s : ℕ) (d : Definition) (o : Option ℕ) �
 base_step g n k s d o lt there e =
     let more : n - k ≡ suc (n - (k + 1)) = omega arith in
     rw (more, there) (through_at (base_within g (n - (k + 1))) d o e)
+
+-- as many trees as values
+pub tree_count_of : (vs : List Value) → tree_count (trees_of (map tree_of vs)) ≡ length vs
+tree_count_of [] = refl
+tree_count_of (v ∷ vs) = ap suc (tree_count_of vs)
 
 -- the walk ends where both lists do
 pub fields_end : (g : Registry) (fs : List Field) (vs : List Value) (i : ℕ) → i ≤ length fs → i ≡ length vs

@@ -7,8 +7,10 @@ ghost use Rattle.shape_core.specs.Shapes.{draft_of, drafts_of};
 use crate::built::is_not_built;
 use crate::draft::Draft;
 use crate::fault::{ShapeFault, ShapeFaultKind};
+use crate::kinds::{has_bad_item, has_bad_unit};
 use crate::rules::{has_too_many, is_undefined, repeats_name, repeats_shape_name};
 use crate::shape::ShapeId;
+use crate::steps::lies_on_cycle;
 
 /// The least fault of the shape of number `at`.
 fn fault_of(drafts: &[Draft], at: usize, draft: &Draft) -> Option<ShapeFaultKind>
@@ -26,6 +28,15 @@ fn fault_of(drafts: &[Draft], at: usize, draft: &Draft) -> Option<ShapeFaultKind
     }
     if repeats_name(&draft.def) {
         return Some(ShapeFaultKind::RepeatedName);
+    }
+    if has_bad_item(&draft.def) {
+        return Some(ShapeFaultKind::BadFlatten);
+    }
+    if lies_on_cycle(drafts, at) {
+        return Some(ShapeFaultKind::StepCycle);
+    }
+    if has_bad_unit(&draft.def) {
+        return Some(ShapeFaultKind::BadEnum);
     }
     if has_too_many(&draft.def) {
         return Some(ShapeFaultKind::TooMany);

@@ -1,101 +1,20 @@
 //! Which values are of a shape.
-ghost use Rattle.std.specs.Prelude.{◌≡◌, ◌<◌, ◌↔◌, ◌∷◌, map, length, option_map, IsTrue};
-ghost use Rattle.std.specs.Option.{option_copied};
-ghost use Rattle.semantics.specs.Trees.{trees_of};
-ghost use Rattle.semantics.specs.Shapes.{definition_at};
-ghost use Rattle.semantics.specs.Typed.{base, scalar_at, option_at, list_at, struct_at, takes_unit, takes_bool, takes_char, takes_unsigned, takes_signed, takes_text, typed, each_typed, fields_typed, tree_is_utf8, trees_are_utf8};
-ghost use Rattle.shape_core.specs.Base.{transparent_of};
+ghost use Rattle.std.specs.Prelude.{◌≡◌, ◌<◌, ◌∷◌, ◌==◌, map, length, option_map, IsTrue};
+ghost use Rattle.semantics.specs.Trees.{list, trees_of};
+ghost use Rattle.semantics.specs.Typed.{takes_unit, takes_bool, takes_char, takes_unsigned, takes_signed, takes_text, has_length, typed, each_typed, fields_typed, tree_is_utf8, trees_are_utf8};
 ghost use Rattle.shape_core.specs.Scalars.{scalar_type_of};
-ghost use Rattle.shape_core.specs.Shapes.{field_of, struct_shape_of, definition_of, registry};
+ghost use Rattle.shape_core.specs.Shapes.{field_of, registry};
 ghost use Rattle.shape_core.specs.Trees.{tree_of};
 
-use crate::definition::Def;
-use crate::field::{Field, StructDef};
+use crate::field::Field;
 use crate::scalar::ScalarType;
 use crate::shape::ShapeId;
 use crate::shapes::Shapes;
 use crate::value::Value;
 
-fn transparent_of(def: &Def) -> Option<ShapeId>
-    ensures { option_map (λ id. id.0) result ≡ transparent_of (definition_of def.now) }
-{
-    match def {
-        Def::Transparent(inner) => Some(*inner),
-        _ => None,
-    }
-}
-
 impl Shapes {
-    /// What the shape is made of. None where there is no such shape.
-    pub fn definition_at(&self, id: ShapeId) -> Option<&Def>
-        ensures { option_map definition_of (option_copied result) ≡ definition_at (registry self.now) id.0 }
-    {
-        match self.get(id) {
-            Some(shape) => Some(&shape.def),
-            None => None,
-        }
-    }
-
-    /// What the values of the shape are made of: the definition behind transparent shapes.
-    ///
-    /// None where there is no such shape, or only transparent ones in a circle.
-    pub fn base(&self, id: ShapeId) -> Option<&Def>
-        ensures { option_map definition_of (option_copied result) ≡ base (registry self.now) id.0 }
-    {
-        let mut at = id;
-        for _step in 0..self.as_slice().len() {
-            let Some(def) = self.definition_at(at) else {
-                return None;
-            };
-            match transparent_of(def) {
-                Some(inner) => at = inner,
-                None => return Some(def),
-            }
-        }
-        None
-    }
-
-    /// The scalar that the values of the shape are of, where they are of one.
-    pub fn scalar_at(&self, id: ShapeId) -> Option<ScalarType>
-        ensures { option_map scalar_type_of result ≡ scalar_at (registry self.now) id.0 }
-    {
-        match self.base(id) {
-            Some(Def::Scalar(scalar)) => Some(*scalar),
-            _ => None,
-        }
-    }
-
-    /// The shape of what an option holds, where the shape is of options.
-    pub fn option_at(&self, id: ShapeId) -> Option<ShapeId>
-        ensures { option_map (λ inner. inner.0) result ≡ option_at (registry self.now) id.0 }
-    {
-        match self.base(id) {
-            Some(Def::Option(inner)) => Some(*inner),
-            _ => None,
-        }
-    }
-
-    /// The shape of a list's items, where the shape is of lists.
-    pub fn list_at(&self, id: ShapeId) -> Option<ShapeId>
-        ensures { option_map (λ item. item.0) result ≡ list_at (registry self.now) id.0 }
-    {
-        match self.base(id) {
-            Some(Def::List(item)) => Some(*item),
-            _ => None,
-        }
-    }
-
-    /// What a struct is made of, where the shape is of structs.
-    pub fn struct_at(&self, id: ShapeId) -> Option<&StructDef>
-        ensures { option_map struct_shape_of (option_copied result) ≡ struct_at (registry self.now) id.0 }
-    {
-        match self.base(id) {
-            Some(Def::Struct(def)) => Some(def),
-            _ => None,
-        }
-    }
-
-    /// Whether the value is of the shape: numbers are in range, and a struct has one value for each field.
+    /// Whether the value is of the shape: numbers are in range, an array has its length, and a struct has one value
+    /// for each field.
     ///
     /// The texts of such a value are UTF-8.
     pub fn types(&self, id: ShapeId, value: &Value<'_>) -> bool
@@ -104,6 +23,16 @@ impl Shapes {
         ensures utf8 { IsTrue result → IsTrue (tree_is_utf8 (tree_of value.now)) }
     {
         is_typed(self, id, value)
+    }
+}
+
+/// Whether there are so many items, where that is said.
+fn has_length(length: Option<u32>, count: usize) -> bool
+    ensures { result ≡ has_length length count }
+{
+    match length {
+        Some(length) => length as usize == count,
+        None => true,
     }
 }
 
@@ -195,15 +124,36 @@ fn is_typed(shapes: &Shapes, id: ShapeId, value: &Value<'_>) -> bool
             Some(item) => is_typed(shapes, item, inner.get()),
             None => false,
         },
-        Value::List(items) => match shapes.list_at(id) {
-            Some(item) => each_typed(shapes, item, items.as_slice()),
+        Value::Ok(inner) => match shapes.ok_at(id) {
+            Some(item) => is_typed(shapes, item, inner.get()),
             None => false,
         },
+        Value::Err(inner) => match shapes.err_at(id) {
+            Some(item) => is_typed(shapes, item, inner.get()),
+            None => false,
+        },
+        Value::List(items) => are_items(shapes, id, items.as_slice()),
         Value::Struct(values) => match shapes.struct_at(id) {
             Some(def) => fields_typed(shapes, def.fields.as_slice(), values.as_slice()),
             None => false,
         },
-        Value::Ok(_) | Value::Err(_) | Value::Map(_) | Value::Enum { .. } => false,
+        Value::Map(_) | Value::Enum { .. } => false,
+    }
+}
+
+/// Whether these are the items of a list or an array of the shape.
+#[cycle(typed)]
+#[tactic(auto, using(crate::proofs::Typing::tree_count_of))]
+fn are_items(shapes: &Shapes, id: ShapeId, values: &[Value<'_>]) -> bool
+    ensures typed { result ≡ typed (registry shapes.now) id.0 (list (trees_of (map tree_of values.now))) }
+    ensures utf8 { IsTrue result → IsTrue (trees_are_utf8 (trees_of (map tree_of values.now))) }
+{
+    if !has_length(shapes.length_at(id), values.len()) {
+        return false;
+    }
+    match shapes.item_at(id) {
+        Some(item) => each_typed(shapes, item, values),
+        None => false,
     }
 }
 

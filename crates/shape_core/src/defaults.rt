@@ -1,0 +1,80 @@
+//! The value that a shape has by itself.
+ghost use Rattle.std.specs.Prelude.{◌≡◌, ◌<◌, None, length, option_map, IfOk};
+ghost use Rattle.semantics.specs.Defaults.{scalar_default, declared_default, default_of, default_at};
+ghost use Rattle.shape_core.specs.Scalars.{scalar_type_of};
+ghost use Rattle.shape_core.specs.Shapes.{definition_of, registry};
+ghost use Rattle.shape_core.specs.Trees.{tree_of};
+
+use crate::definition::Def;
+use crate::items::Items;
+use crate::memory::OutOfMemory;
+use crate::name::Name;
+use crate::scalar::ScalarType;
+use crate::shape::ShapeId;
+use crate::shapes::Shapes;
+use crate::text::Text;
+use crate::value::Value;
+use std::alloc::Global;
+
+impl Shapes {
+    /// The value that the shape has by itself: false, 0 and the like of a scalar, an option that holds nothing, an
+    /// empty list, set or map, and what a struct declares. None for a result, an array, an enum, and a struct that
+    /// declares nothing. A transparent shape has what its inner one has.
+    pub fn default_of<'de>(
+        &self,
+        alloc: Global,
+        id: ShapeId,
+    ) -> Result<Option<Value<'de>>, OutOfMemory>
+        requires { id.0 < length (registry self.now) }
+        ensures { IfOk result (λ value. option_map tree_of value ≡ default_at (registry self.now) id.0) }
+    {
+        self.rules();
+        match self.base(id) {
+            Some(def) => default_of(alloc, def),
+            None => Ok(None),
+        }
+    }
+}
+
+/// The default of what isn't transparent. No struct of a checked registry declares one yet.
+fn default_of<'de>(alloc: Global, def: &Def) -> Result<Option<Value<'de>>, OutOfMemory>
+    requires { declared_default (definition_of def.now) ≡ None }
+    ensures { IfOk result (λ value. option_map tree_of value ≡ default_of (definition_of def.now)) }
+{
+    match def {
+        Def::Scalar(scalar) => Ok(Some(scalar.default_value(alloc)?)),
+        Def::Option(_) => Ok(Some(Value::None)),
+        Def::List(_) | Def::Set(_) => Ok(Some(Value::List(Items::new(alloc)))),
+        Def::Map { .. } => Ok(Some(Value::Map(Items::new(alloc)))),
+        Def::Struct(_) => Ok(None),
+        Def::Result { .. } | Def::Array { .. } | Def::Enum(_) | Def::Transparent(_) => Ok(None),
+    }
+}
+
+impl ScalarType {
+    /// What the scalar has where nothing is told: unit, false, the character of number 0, 0, or the empty text.
+    pub fn default_value<'de>(self, alloc: Global) -> Result<Value<'de>, OutOfMemory>
+        ensures { IfOk result (λ value. tree_of value ≡ scalar_default (scalar_type_of self)) }
+    {
+        match self {
+            ScalarType::Unit => Ok(Value::Unit),
+            ScalarType::Bool => Ok(Value::Bool(false)),
+            ScalarType::Char => Ok(Value::Char('\0')),
+            ScalarType::U8
+            | ScalarType::U16
+            | ScalarType::U32
+            | ScalarType::U64
+            | ScalarType::U128
+            | ScalarType::USize => Ok(Value::Unsigned(0)),
+            ScalarType::I8
+            | ScalarType::I16
+            | ScalarType::I32
+            | ScalarType::I64
+            | ScalarType::I128
+            | ScalarType::ISize => Ok(Value::Signed(0)),
+            ScalarType::String | ScalarType::Str => {
+                Ok(Value::Text(Text::Owned(Name::copy(alloc, "")?)))
+            }
+        }
+    }
+}
