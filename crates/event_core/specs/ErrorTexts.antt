@@ -13,6 +13,8 @@ use Rattle.event_core.specs.declared.error.DeserializeErrorKind.{DeserializeErro
 use Rattle.event_core.specs.declared.error.DeserializeErrorKind.TheVariants as kinds
 use Rattle.event_core.specs.declared.error.DeserializeError.{DeserializeError}
 use Rattle.event_core.specs.declared.error.ParseError.{ParseError}
+use Rattle.event_core.specs.declared.error.SerializeError.{SerializeError}
+use Rattle.event_core.specs.declared.error.SerializeError.TheVariants as unwritten
 
 -- a field as .NAME, an item as [AT], a variant as ::NAME
 abbrev pub step_text : PathSegment → List ℕ
@@ -108,3 +110,11 @@ parse_error_text e = fault_text e.kind ++? (Some (codes " at ") ++? Some (span_t
 -- why a value can't be built, and at which part
 abbrev pub reflect_error_text : ReflectError → List ℕ
 reflect_error_text e = refusal_text e.kind ++ (codes " at " ++ path_text e.path)
+
+-- why a value wasn't written; what a format says itself is no part of it
+abbrev pub unwritten_text : {E : Type 0} → SerializeError E → List ℕ
+unwritten_text (unwritten.Backend error) = codes "format serializer error"
+unwritten_text (unwritten.Reflect error) = reflect_error_text error
+unwritten_text (unwritten.Unsupported message) = text_bytes message
+unwritten_text (unwritten.Internal message) = text_bytes message
+unwritten_text unwritten.Alloc = codes "out of memory"

@@ -1,10 +1,10 @@
 -- Keys, as the definitions see them.
-use Rattle.std.specs.Prelude.{Option, Some, None}
+use Rattle.std.specs.Prelude.{true, List, [], ◌∷◌, Option, Some, None}
 use Rattle.std.specs.Option.{option_map}
 use Rattle.semantics.specs.Texts.{Phrase}
 use Rattle.semantics.specs.Events.{Metadata, Note, Key, named, nameless}
 use Rattle.shape_core.specs.Texts.{phrase_of}
-use Rattle.event_core.specs.Metadata.{metadata_of}
+use Rattle.event_core.specs.Metadata.{metadata_of, said}
 use Rattle.event_core.specs.declared.key.FieldLocationHint.{FieldLocationHint}
 use Rattle.event_core.specs.declared.key.FieldLocationHint.TheVariants.{KeyValue}
 use Rattle.event_core.specs.declared.key.FieldKey.{FieldKey}
@@ -34,3 +34,30 @@ key_metadata (Full k) = Some (metadata_of k.meta)
 abbrev pub key_location : FieldKey → FieldLocationHint
 key_location (Name t) = KeyValue
 key_location (Full k) = k.location
+
+-- what a key holds
+pub record KeyParts : Type 0 where
+  pub name : Option Phrase
+  pub location : FieldLocationHint
+  pub metadata : Option Metadata
+
+-- the parts of a key
+abbrev pub parts_of : FieldKey → KeyParts
+parts_of k = record { name = key_name k; location = key_location k; metadata = key_metadata k }
+
+-- the parts of a name alone
+abbrev pub name_parts : Phrase → KeyParts
+name_parts name = record { name = Some name; location = KeyValue; metadata = None }
+
+-- the parts of a key with this tag and these lines of documentation
+abbrev pub full_parts : Option Phrase → FieldLocationHint → Option Phrase → List Phrase → KeyParts
+full_parts name location tag docs = record { name = name; location = location; metadata = Some (said tag docs) }
+
+-- a name with lines of documentation; without a line it is a name alone
+abbrev pub documented_parts : Phrase → FieldLocationHint → List Phrase → KeyParts
+documented_parts name location [] = name_parts name
+documented_parts name location (line ∷ lines) = full_parts (Some name) location None (line ∷ lines)
+
+-- the tag of what has none: the text of no byte
+abbrev pub empty_tag : Phrase
+empty_tag = record { bytes = []; borrowed = true }

@@ -3,5 +3,8 @@ pub mod Keys
 pub mod Kinds
 pub mod Events
 pub mod Faults
+pub mod Queued
 pub mod Texts
+pub mod ScalarTexts
+pub mod Building
 pub mod ErrorTexts

@@ -30,6 +30,10 @@ note_view s m = record { span = span_view s; metadata = option_map metadata_of m
 abbrev pub no_metadata : Metadata
 no_metadata = record { tag = None; docs = []; span = None }
 
+-- a tag and lines of documentation, at no place
+abbrev pub said : Option Phrase → List Phrase → Metadata
+said tag docs = record { tag = tag; docs = docs; span = None }
+
 -- the list, where it has an item
 abbrev pub nonempty : {A : Type 0} → List A → Option (List A)
 nonempty [] = None

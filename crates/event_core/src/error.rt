@@ -1,5 +1,6 @@
 //! Why something can't be read or written.
-ghost use Rattle.std.specs.Prelude.{◌≡◌, None, Some, option_copied};
+ghost use Rattle.std.specs.Prelude.{◌≡◌, true, None, Some, option_copied};
+ghost use Rattle.event_core.specs.Building.{IsRefusedAs, is_memory, refused_span, refused_path};
 
 use crate::path::Path;
 use crate::reflect::{ReflectError, ReflectErrorKind};
@@ -261,6 +262,42 @@ impl DeserializeError {
         ensures { option_copied result ≡ self.now.span }
     {
         self.span.as_ref()
+    }
+}
+
+impl DeserializeError {
+    /// What a refused builder is answered as, at this place.
+    ///
+    /// A field that isn't set is [`DeserializeErrorKind::MissingField`], and every other refusal stands as it is. Want
+    /// of memory stays want of memory, which has neither a place nor a path.
+    pub fn from_reflect(error: ReflectError, span: Span) -> DeserializeError
+        ensures kind { IsRefusedAs error.kind result.kind }
+        ensures span { result.span ≡ refused_span error.kind span }
+        ensures path { result.path ≡ refused_path error.kind error.path }
+    {
+        let ReflectError { path, kind } = error;
+        let kind = match kind {
+            ReflectErrorKind::UninitializedField { shape, field } => {
+                DeserializeErrorKind::MissingField {
+                    field,
+                    container_shape: shape,
+                }
+            }
+            ReflectErrorKind::Alloc => return out_of_memory(),
+            kind => DeserializeErrorKind::Reflect { kind, context: "" },
+        };
+        kind.with_span(span).set_path(path)
+    }
+}
+
+fn out_of_memory() -> DeserializeError
+    ensures kind { is_memory result.kind ≡ true }
+    ensures nowhere { (result.span ≡ None) × (result.path ≡ None) }
+{
+    DeserializeError {
+        span: None,
+        path: None,
+        kind: DeserializeErrorKind::Alloc { operation: "value" },
     }
 }
 

@@ -223,6 +223,11 @@ impl fmt::Debug for DeserializeError {
 impl Error for DeserializeError {}
 
 impl<E: fmt::Debug> fmt::Display for SerializeError<E> {
+    ghost use Rattle.std.specs.Prelude.{Some};
+    ghost use Rattle.event_core.specs.ErrorTexts.{unwritten_text};
+
+    ghost output = { λ error. Some (unwritten_text error) };
+
     fn fmt<W: fmt::Write>(&self, f: &mut fmt::Formatter<W>) -> fmt::Result {
         match self {
             SerializeError::Backend(_) => write!(f, "format serializer error"),

@@ -1,9 +1,12 @@
 //! Events: what a parser gives, one by one.
 ghost use Rattle.std.specs.Prelude.{◌≡◌, IfOk, None};
+ghost use Rattle.event_core.specs.Metadata.{metadata_of, built, no_metadata};
 ghost use Rattle.event_core.specs.Kinds.{container_name, kind_text};
+ghost use Rattle.event_core.specs.Building.{HasTold};
+ghost use Rattle.event_core.specs.declared.metadata.ValueMetaBuilder.{ValueMetaBuilder};
 
 use crate::key::FieldKey;
-use crate::metadata::ValueMeta;
+use crate::metadata::{ValueMeta, ValueMetaBuilder};
 use crate::scalar::ScalarValue;
 use crate::span::Span;
 use shape_core::OutOfMemory;
@@ -112,6 +115,32 @@ impl<'de> ParseEvent<'de> {
             kind,
             span,
             meta: None,
+        }
+    }
+
+    /// Sets the metadata that `f` builds, where it sets a part. The builder that `f` is given has nothing set.
+    pub fn with_meta<F: FnOnce(ValueMetaBuilder<'de>) -> ValueMetaBuilder<'de>>(
+        self,
+        f: F,
+    ) -> ParseEvent<'de>
+        requires { (start : ValueMetaBuilder) → built start ≡ no_metadata → F.pre f start }
+        ensures { (start : ValueMetaBuilder) × (made : ValueMetaBuilder) × (built start ≡ no_metadata) × F.post f start made × HasTold (built made) self.entry result }
+    {
+        let built = f(ValueMeta::builder()).build();
+        self.told(built)
+    }
+
+    /// The same event with this metadata, unless it tells nothing.
+    fn told(self, meta: ValueMeta<'de>) -> ParseEvent<'de>
+        ensures { HasTold (metadata_of meta.entry) self.entry result }
+    {
+        if meta.is_empty() {
+            return self;
+        }
+        ParseEvent {
+            kind: self.kind,
+            span: self.span,
+            meta: Some(meta),
         }
     }
 

@@ -1,9 +1,10 @@
 //! What is known of a field before its value is read.
-ghost use Rattle.std.specs.Prelude.{◌≡◌, None, Some};
+ghost use Rattle.std.specs.Prelude.{◌≡◌, IfOk, None, Some};
 
 use crate::key::FieldLocationHint;
 use crate::scalar::ScalarValue;
-use shape_core::Text;
+use shape_core::{OutOfMemory, Text};
+use std::alloc::Global;
 
 /// What kind of value stands there.
 #[derive(Debug, Clone, Copy, PartialEq, Eq)]
@@ -69,5 +70,39 @@ impl<'de> FieldEvidence<'de> {
             value_type,
             scalar_value: Some(scalar_value),
         }
+    }
+
+    /// The same evidence again. It is refused for want of memory alone.
+    pub fn try_clone(&self, alloc: Global) -> Result<FieldEvidence<'de>, OutOfMemory>
+        ensures { IfOk result (λ copy. copy ≡ self.now) }
+    {
+        let name = match self.name.try_clone(alloc) {
+            Ok(name) => name,
+            Err(refused) => return Err(refused),
+        };
+        match clone_scalar(alloc, &self.scalar_value) {
+            Ok(scalar_value) => Ok(FieldEvidence {
+                name,
+                location: self.location,
+                value_type: self.value_type,
+                scalar_value,
+            }),
+            Err(refused) => Err(refused),
+        }
+    }
+}
+
+fn clone_scalar<'de>(
+    alloc: Global,
+    scalar: &Option<ScalarValue<'de>>,
+) -> Result<Option<ScalarValue<'de>>, OutOfMemory>
+    ensures { IfOk result (λ copy. copy ≡ scalar.now) }
+{
+    match scalar {
+        None => Ok(None),
+        Some(scalar) => match scalar.try_clone(alloc) {
+            Ok(scalar) => Ok(Some(scalar)),
+            Err(refused) => Err(refused),
+        },
     }
 }

@@ -1,12 +1,12 @@
 //! What stands before the value of an entry.
-ghost use Rattle.std.specs.Prelude.{◌≡◌, IfOk, map, option_copied, option_and_then};
+ghost use Rattle.std.specs.Prelude.{◌≡◌, [], IfOk, None, Some, map, option_copied, option_and_then};
 ghost use Rattle.std.specs.Option.{option_map};
 ghost use Rattle.shape_core.specs.Texts.{phrase_of};
 ghost use Rattle.event_core.specs.Metadata.{metadata_of, docs_told, tag_told};
-ghost use Rattle.event_core.specs.Keys.{key_name, key_metadata, key_location};
-ghost use Rattle.event_core.specs.declared.key.FieldKey.TheVariants.{Name};
+ghost use Rattle.event_core.specs.Keys.{key_name, key_metadata, key_location, parts_of, full_parts, documented_parts, empty_tag};
+ghost use Rattle.event_core.specs.declared.key.FieldKey.TheVariants.{Name, Full};
 
-use crate::metadata::{ValueMeta, clone_text};
+use crate::metadata::{Docs, ValueMeta, clone_text};
 use shape_core::{Boxed, OutOfMemory, Text};
 use std::alloc::Global;
 
@@ -44,6 +44,110 @@ impl<'de> FieldKey<'de> {
         ensures { result ≡ Name name.entry }
     {
         FieldKey::Name(name)
+    }
+
+    /// A name with lines of documentation. Without a line it is a name alone.
+    ///
+    /// Like each of the following, it is refused for want of memory alone.
+    pub fn with_doc(
+        alloc: Global,
+        name: Text<'de>,
+        location: FieldLocationHint,
+        doc: Docs<'de>,
+    ) -> Result<FieldKey<'de>, OutOfMemory>
+        ensures parts { IfOk result (λ key. parts_of key ≡ documented_parts (phrase_of name.entry) location (map phrase_of doc.entry)) }
+        ensures plain { IfOk result (λ key. doc.entry ≡ [] → key ≡ Name name.entry) }
+    {
+        if doc.is_empty() {
+            return Ok(FieldKey::new(name, location));
+        }
+        full(
+            alloc,
+            Some(name),
+            location,
+            ValueMeta::builder().doc(doc).build(),
+        )
+    }
+
+    /// A tag without a name.
+    pub fn tagged(
+        alloc: Global,
+        tag: Text<'de>,
+        location: FieldLocationHint,
+    ) -> Result<FieldKey<'de>, OutOfMemory>
+        ensures { IfOk result (λ key. parts_of key ≡ full_parts None location (Some (phrase_of tag.entry)) []) }
+    {
+        full(alloc, None, location, ValueMeta::builder().tag(tag).build())
+    }
+
+    /// A tag without a name, with lines of documentation.
+    pub fn tagged_with_doc(
+        alloc: Global,
+        tag: Text<'de>,
+        location: FieldLocationHint,
+        doc: Docs<'de>,
+    ) -> Result<FieldKey<'de>, OutOfMemory>
+        ensures { IfOk result (λ key. parts_of key ≡ full_parts None location (Some (phrase_of tag.entry)) (map phrase_of doc.entry)) }
+    {
+        full(
+            alloc,
+            None,
+            location,
+            ValueMeta::builder().tag(tag).doc(doc).build(),
+        )
+    }
+
+    /// A name with a tag.
+    pub fn tagged_with_name(
+        alloc: Global,
+        tag: Text<'de>,
+        name: Text<'de>,
+        location: FieldLocationHint,
+    ) -> Result<FieldKey<'de>, OutOfMemory>
+        ensures { IfOk result (λ key. parts_of key ≡ full_parts (Some (phrase_of name.entry)) location (Some (phrase_of tag.entry)) []) }
+    {
+        full(
+            alloc,
+            Some(name),
+            location,
+            ValueMeta::builder().tag(tag).build(),
+        )
+    }
+
+    /// A name with a tag and lines of documentation.
+    pub fn tagged_with_name_and_doc(
+        alloc: Global,
+        tag: Text<'de>,
+        name: Text<'de>,
+        location: FieldLocationHint,
+        doc: Docs<'de>,
+    ) -> Result<FieldKey<'de>, OutOfMemory>
+        ensures { IfOk result (λ key. parts_of key ≡ full_parts (Some (phrase_of name.entry)) location (Some (phrase_of tag.entry)) (map phrase_of doc.entry)) }
+    {
+        full(
+            alloc,
+            Some(name),
+            location,
+            ValueMeta::builder().tag(tag).doc(doc).build(),
+        )
+    }
+
+    /// The key of a unit: the empty tag, without a name.
+    pub fn unit(alloc: Global, location: FieldLocationHint) -> Result<FieldKey<'de>, OutOfMemory>
+        ensures { IfOk result (λ key. parts_of key ≡ full_parts None location (Some empty_tag) []) }
+    {
+        FieldKey::tagged(alloc, Text::Borrowed(""), location)
+    }
+
+    /// The key of a unit with lines of documentation.
+    pub fn unit_with_doc(
+        alloc: Global,
+        location: FieldLocationHint,
+        doc: Docs<'de>,
+    ) -> Result<FieldKey<'de>, OutOfMemory>
+        ensures { IfOk result (λ key. parts_of key ≡ full_parts None location (Some empty_tag) (map phrase_of doc.entry)) }
+    {
+        FieldKey::tagged_with_doc(alloc, Text::Borrowed(""), location, doc)
     }
 
     /// The name, where there is one.
@@ -131,4 +235,21 @@ impl<'de> FullFieldKey<'de> {
             Err(refused) => Err(refused),
         }
     }
+}
+
+/// A key with metadata, in memory of its own.
+fn full<'de>(
+    alloc: Global,
+    name: Option<Text<'de>>,
+    location: FieldLocationHint,
+    meta: ValueMeta<'de>,
+) -> Result<FieldKey<'de>, OutOfMemory>
+    ensures { IfOk result (λ key. key ≡ Full (record { name = name.entry; location = location; meta = meta.entry })) }
+{
+    let full = FullFieldKey {
+        name,
+        location,
+        meta,
+    };
+    Ok(FieldKey::Full(Boxed::new(alloc, full)?))
 }

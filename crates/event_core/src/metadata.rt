@@ -12,7 +12,7 @@ use std::alloc::Global;
 pub type Docs<'de> = Items<Text<'de>>;
 
 /// Documentation, a tag and a place, each where it was told.
-#[derive(Debug, PartialEq, Eq, Default, Drop)]
+#[derive(Debug, PartialEq, Eq, Drop)]
 pub struct ValueMeta<'a> {
     doc: Option<Items<Text<'a>>>,
     tag: Option<Text<'a>>,
@@ -20,21 +20,53 @@ pub struct ValueMeta<'a> {
 }
 
 /// Sets the parts of a [`ValueMeta`] one by one.
-#[derive(Debug, Default, Drop)]
+#[derive(Debug, Drop)]
 pub struct ValueMetaBuilder<'a> {
     meta: ValueMeta<'a>,
 }
 
 /// Where the metadata of a value come from.
-#[derive(Debug, Default, Drop)]
+#[derive(Debug, Drop)]
 pub enum MetaSource<'a> {
     /// These.
     Explicit(&'a ValueMeta<'a>),
     /// These, handed over.
     Owned(ValueMeta<'a>),
     /// Those of the first event of the value.
-    #[default]
     FromEvents,
+}
+
+impl<'a> Default for ValueMeta<'a> {
+    ghost use Rattle.std.specs.Prelude.{◌≡◌};
+    ghost use Rattle.event_core.specs.Metadata.{metadata_of, no_metadata};
+
+    ghost is_default = { λ meta. metadata_of meta ≡ no_metadata };
+
+    fn default() -> ValueMeta<'a> {
+        ValueMeta::empty()
+    }
+}
+
+impl<'a> Default for ValueMetaBuilder<'a> {
+    ghost use Rattle.std.specs.Prelude.{◌≡◌};
+    ghost use Rattle.event_core.specs.Metadata.{built, no_metadata};
+
+    ghost is_default = { λ builder. built builder ≡ no_metadata };
+
+    fn default() -> ValueMetaBuilder<'a> {
+        ValueMeta::builder()
+    }
+}
+
+impl<'a> Default for MetaSource<'a> {
+    ghost use Rattle.std.specs.Prelude.{◌≡◌};
+    ghost use Rattle.event_core.specs.declared.metadata.MetaSource.TheVariants.{FromEvents};
+
+    ghost is_default = { λ source. source ≡ FromEvents };
+
+    fn default() -> MetaSource<'a> {
+        MetaSource::FromEvents
+    }
 }
 
 impl<'a> From<&'a ValueMeta<'a>> for MetaSource<'a> {

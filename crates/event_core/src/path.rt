@@ -35,6 +35,27 @@ impl Model for Path {
     ghost view = { λ path. path.steps };
 }
 
+impl PartialEq for Path {
+    ghost use Rattle.std.specs.Cmp.Lexicographic.{pointwise, lists_per};
+    ghost use Rattle.event_core.specs.contracts.path.PathSegmentPartialEq.TheImpl as step;
+    ghost use Rattle.event_core.specs.contracts.path.PathSegmentPartialEq.TheImpl.Laws as step_laws;
+
+    ghost eq = { pointwise step.ghosts.eq };
+
+    ghost laws = { lists_per step_laws.laws-law };
+
+    fn eq(&self, other: &Path) -> bool {
+        self.steps == other.steps
+    }
+}
+
+impl Eq for Path {
+    ghost use Rattle.std.specs.Cmp.Lexicographic.{lists_equiv};
+    ghost use Rattle.event_core.specs.contracts.path.PathSegmentEq.TheImpl.Laws as step_laws;
+
+    ghost laws = { lists_equiv step_laws.laws-law };
+}
+
 impl PathSegment {
     /// The same step again. It is refused for want of memory alone.
     pub fn try_clone(&self, alloc: Global) -> Result<PathSegment, OutOfMemory>

@@ -1,9 +1,11 @@
 //! The scalars of events.
-ghost use Rattle.std.specs.Prelude.{◌≡◌, IfOk};
+ghost use Rattle.std.specs.Prelude.{◌≡◌, IfOk, IfSome};
 ghost use Rattle.event_core.specs.Kinds.{scalar_name};
+ghost use Rattle.event_core.specs.ScalarTexts.{string_of, display_of, in_brackets};
 
-use shape_core::{Bytes, OutOfMemory, Text};
+use shape_core::{Bytes, Name, OutOfMemory, Text};
 use std::alloc::Global;
+use std::fmt::Display;
 
 /// A value without parts.
 #[derive(Debug, PartialEq, Eq, Drop)]
@@ -49,6 +51,44 @@ impl<'de> ScalarValue<'de> {
         }
     }
 
+    /// The scalar as a text: a number in decimal, a character and a text as they are, `null` for Null, and the empty
+    /// text for Unit. None for bytes. It is refused for want of memory alone.
+    pub fn to_string_value(&self, alloc: Global) -> Result<Option<Name>, OutOfMemory>
+        ensures { IfOk result (λ text. text ≡ string_of self.now) }
+    {
+        match self {
+            ScalarValue::Unit => Ok(Some(Name::copy(alloc, "")?)),
+            ScalarValue::Null => Ok(Some(Name::copy(alloc, "null")?)),
+            ScalarValue::Bool(told) => Ok(Some(Name::from_string(told.to_string(alloc)?))),
+            ScalarValue::Char(letter) => Ok(Some(Name::from_string(letter.to_string(alloc)?))),
+            ScalarValue::I64(number) => Ok(Some(Name::from_string(number.to_string(alloc)?))),
+            ScalarValue::U64(number) => Ok(Some(Name::from_string(number.to_string(alloc)?))),
+            ScalarValue::I128(number) => Ok(Some(Name::from_string(number.to_string(alloc)?))),
+            ScalarValue::U128(number) => Ok(Some(Name::from_string(number.to_string(alloc)?))),
+            ScalarValue::Str(text) => Ok(Some(Name::copy(alloc, text.as_str())?)),
+            ScalarValue::Bytes(_) => Ok(None),
+        }
+    }
+
+    /// What it is and its text, as `i64(-5)`, for messages. A text is shown as it is, and Unit, Null and bytes have no
+    /// text beside what they are. It is refused for want of memory alone.
+    pub fn to_display_string(&self, alloc: Global) -> Result<Name, OutOfMemory>
+        ensures { IfOk result (λ text. text ≡ display_of self.now) }
+    {
+        match self {
+            ScalarValue::Unit => Name::copy(alloc, "unit"),
+            ScalarValue::Null => Name::copy(alloc, "null"),
+            ScalarValue::Bool(told) => in_brackets(alloc, "bool", told),
+            ScalarValue::Char(letter) => in_brackets(alloc, "char", letter),
+            ScalarValue::I64(number) => in_brackets(alloc, "i64", number),
+            ScalarValue::U64(number) => in_brackets(alloc, "u64", number),
+            ScalarValue::I128(number) => in_brackets(alloc, "i128", number),
+            ScalarValue::U128(number) => in_brackets(alloc, "u128", number),
+            ScalarValue::Str(text) => Name::copy(alloc, text.as_str()),
+            ScalarValue::Bytes(_) => Name::copy(alloc, "bytes"),
+        }
+    }
+
     /// The same scalar again. It is refused for want of memory alone.
     pub fn try_clone(&self, alloc: Global) -> Result<ScalarValue<'de>, OutOfMemory>
         ensures { IfOk result (λ copy. copy ≡ self.now) }
@@ -72,4 +112,11 @@ impl<'de> ScalarValue<'de> {
             },
         }
     }
+}
+
+/// A word, and what is shown in round brackets.
+fn in_brackets<T: Display>(alloc: Global, word: &str, shown: &T) -> Result<Name, OutOfMemory>
+    ensures { IfOk result (λ text. IfSome (T.output shown.now) (λ bytes. text ≡ in_brackets word.now bytes)) }
+{
+    Ok(Name::from_string(format!(in alloc; "{word}({shown})")?))
 }

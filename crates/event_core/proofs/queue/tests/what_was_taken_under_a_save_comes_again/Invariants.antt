@@ -1,0 +1,5 @@
+use Rattle.event_core.proofs.queue.tests.what_was_taken_under_a_save_comes_again.Given as goal
+
+-- the ledger that the test opens
+abbrev pub ghosts-comes_again : goal.ghosts-comes_again
+ghosts-comes_again g a = record { name = a.ledger.name; parts = a.ledger.parts }
