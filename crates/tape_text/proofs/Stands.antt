@@ -1,5 +1,5 @@
 -- What stands at a place of an input.
-use Rattle.std.proofs.Common.{ℕ, suc, ◌+◌, ◌<◌, ◌≡◌, ◌≢◌, List, [], ◌∷◌, ◌++◌, true, not, eqb, length, get_or, take, drop, sym, refl, ap, ◌∙◌, arith, zero}
+use Rattle.std.proofs.Common.{ℕ, suc, ◌+◌, ◌<◌, ◌≡◌, ◌≢◌, List, [], ◌∷◌, ◌++◌, true, not, eqb, length, get_or, take, drop, sym, refl, ap, ◌∙◌, arith, zero, Err}
 use Rattle.std.proofs.lemmas.Bool.Decides.{nat_tests}
 use Rattle.std.proofs.lemmas.List.{length-take-le, drop-drop}
 use Rattle.semantics.specs.Faults.{FaultKind, unexpected_eof, ends, stops}
@@ -7,8 +7,10 @@ use Rattle.semantics.specs.Tapes.{at_line, has_no_end}
 use Rattle.event_core.specs.Faults.{fault_kind_of, parse_fault}
 use Rattle.event_core.specs.declared.error.DeserializeErrorKind.{DeserializeErrorKind}
 use Rattle.event_core.specs.declared.error.ParseError.{ParseError}
+use Rattle.tape_text.specs.declared.line.Stop.{Stop}
+use Rattle.tape_text.specs.declared.line.Stop.TheVariants.{NoMemory, Bad}
 use Rattle.tape_text.specs.Coming.{judged, only, on_line, on_rest, coming_from}
-use Rattle.tape_text.specs.Parser.{coming_at}
+use Rattle.tape_text.specs.Parser.{coming_at, JudgesLine, StandsAt}
 use Rattle.tape_text.proofs.TapeLaws.{coming-line, coming-rest}
 
 -- an error at a line
@@ -47,6 +49,11 @@ line_stands input at n rest is less feed front =
     ∙ coming-line at (take n rest) (drop (suc n) rest) (no_end-front rest n less front)
     ∙ ap (λ m. on_line (judged at (take n rest)) (coming_from m (drop (suc n) rest))) place
     ∙ ap (λ x. on_line (judged at (take n rest)) (coming_from (at + n + 1) x)) behind
+
+-- a line without an event stands there
+pub stop_stands : (input : List ℕ) (at : ℕ) (line : List ℕ) (next : ℕ) (stop : Stop) → coming_at input at ≡ on_line (judged at line) (coming_at input next) → JudgesLine at line (Err stop) → StandsAt input at (Err stop)
+stop_stands input at line next NoMemory h k = tt
+stop_stands input at line next (Bad e) h k = h ∙ ap (λ j. on_line j (coming_at input next)) k
 
 -- no line feed is left
 pub rest_stands : (input : List ℕ) (at : ℕ) (rest : List ℕ) → rest ≡ drop at input → ((k : ℕ) → k < length rest → get_or rest k 0 ≢ 10) → coming_at input at ≡ on_rest at rest

@@ -1,5 +1,5 @@
 -- Calls of a parser of a tape.
-use Rattle.std.proofs.Common.{ℕ, ◌+◌, ◌-◌, ◌<◌, ◌≡◌, ◌⊎◌, List, [], ◌∷◌, ◌++◌, true, false, Some, None, Ok, Err, length, refl, ap, arith}
+use Rattle.std.proofs.Common.{ℕ, ◌+◌, ◌-◌, ◌<◌, ◌≡◌, ◌⊎◌, List, [], ◌∷◌, ◌++◌, true, false, Some, None, Ok, Err, inl, inr, length, refl, ap, arith}
 use Rattle.semantics.specs.Faults.{Coming}
 use Rattle.event_core.specs.Events.{event_of}
 use Rattle.event_core.specs.declared.event.ParseEvent.{ParseEvent}
@@ -8,12 +8,12 @@ use Rattle.format_traits.specs.Parsing.{Parsing, Gave, Failed, EndAfter, Met, Is
 use Rattle.format_traits.specs.Batches.{Put, PutBefore}
 use Rattle.format_traits.proofs.ParsingLemmas.{put_none, put_more, put_still, put_refused}
 use Rattle.format_traits.proofs.TellingLemmas.{told_gave, told_still, told_failed, told_end, told_met, told_next, told_no_next}
-use Rattle.tape_text.specs.Parser.{coming_at, parsing_of, StandsAt, PutNext}
+use Rattle.tape_text.specs.Parser.{coming_at, parsing_of, LooksAt, PutNext}
 
 abbrev pub tape_at : List ℕ → ℕ → ℕ → Parsing
 tape_at input at faults = parsing_of (record { input = input; at = at; faults = faults })
 
-pub takes : (input : List ℕ) (at next f g : ℕ) (e : ParseEvent) → StandsAt input at (Ok (Some (e, next))) → Gave (event_of e ∷ []) (tape_at input at f) (tape_at input next g)
+pub takes : (input : List ℕ) (at next f g : ℕ) (e : ParseEvent) → LooksAt input at (Ok (Some (e, next))) → Gave (event_of e ∷ []) (tape_at input at f) (tape_at input next g)
 takes input at next f g e h =
     told_gave (event_of e) (coming_at input at) (coming_at input next) (length input - at) (length input - next) f g None h.2 (omega (arith, h.0, h.1))
 
@@ -23,22 +23,23 @@ keeps input at f g = told_still (coming_at input at) (length input - at) (length
 pub fails : (input : List ℕ) (at f g : ℕ) → Failed (tape_at input at f) (tape_at input at g)
 fails input at f g = told_failed (coming_at input at) (length input - at) (length input - at) f g None (omega arith)
 
-pub ended : (input : List ℕ) (at f : ℕ) → StandsAt input at (Ok None) → EndAfter [] (tape_at input at f)
+pub ended : (input : List ℕ) (at f : ℕ) → LooksAt input at (Ok None) → EndAfter [] (tape_at input at f)
 ended input at f h = told_end (coming_at input at) (length input - at) f None h
 
-pub meets : (input : List ℕ) (at f g : ℕ) (e : ParseError) → StandsAt input at (Err e) → Met [] e (tape_at input at f) (tape_at input at g)
-meets input at f g e h = told_met e (coming_at input at) (length input - at) (length input - at) f g None h
+pub meets : (input : List ℕ) (at f g : ℕ) (e : ParseError) → LooksAt input at (Err e) → IsMemory e ⊎ Met [] e (tape_at input at f) (tape_at input at g)
+meets input at f g e (inl m) = inl m
+meets input at f g e (inr h) = inr (told_met e (coming_at input at) (length input - at) (length input - at) f g None h)
 
-pub sees : (input : List ℕ) (at next f : ℕ) (e : ParseEvent) → StandsAt input at (Ok (Some (e, next))) → IsNext (Some e) (tape_at input at f)
+pub sees : (input : List ℕ) (at next f : ℕ) (e : ParseEvent) → LooksAt input at (Ok (Some (e, next))) → IsNext (Some e) (tape_at input at f)
 sees input at next f e h = told_next e (coming_at input at) (coming_at input next) (length input - at) f None h.2
 
-pub sees_none : (input : List ℕ) (at f : ℕ) → StandsAt input at (Ok None) → IsNext None (tape_at input at f)
+pub sees_none : (input : List ℕ) (at f : ℕ) → LooksAt input at (Ok None) → IsNext None (tape_at input at f)
 sees_none input at f h = told_no_next (coming_at input at) (length input - at) f None (ap (λ (c : Coming). c.events) h)
 
-pub puts : (input : List ℕ) (at next f g : ℕ) (e : ParseEvent) (held : List ParseEvent) → StandsAt input at (Ok (Some (e, next))) → PutNext true (tape_at input at f) (tape_at input next g) held (held ++ (e ∷ []))
+pub puts : (input : List ℕ) (at next f g : ℕ) (e : ParseEvent) (held : List ParseEvent) → LooksAt input at (Ok (Some (e, next))) → PutNext true (tape_at input at f) (tape_at input next g) held (held ++ (e ∷ []))
 puts input at next f g e held h = (e, refl, takes input at next f g e h)
 
-pub puts_none : (input : List ℕ) (at f g : ℕ) (held : List ParseEvent) → StandsAt input at (Ok None) → PutNext false (tape_at input at f) (tape_at input at g) held held
+pub puts_none : (input : List ℕ) (at f g : ℕ) (held : List ParseEvent) → LooksAt input at (Ok None) → PutNext false (tape_at input at f) (tape_at input at g) held held
 puts_none input at f g held h = (refl, keeps input at f g, ended input at g h)
 
 pub put_first : (p : Parsing) (held : List ParseEvent) → Put 0 p p held held

@@ -8,7 +8,7 @@ use Rattle.semantics.specs.Faults.{unexpected_eof, invalid_utf8, Fault, Ending, 
 use Rattle.semantics.specs.Lines.{IsLineOf}
 use Rattle.semantics.specs.Tapes.{line_span, IsTapeFrom, IsTape, has_no_end, at_line, IsLineFault, no_end, no_text, no_event}
 use Rattle.semantics.specs.Recoding.{Comes, to_the_end, to_a_fault}
-use Rattle.tape_text.specs.Bodies.{event_of}
+use Rattle.tape_text.specs.Reading.{event_of}
 use Rattle.tape_text.specs.Coming.{Lines, longer, lines_of, Judged, good, bad, judged_text, judged, before, only, on_line, on_rest, coming_lines, coming_from}
 use Rattle.tape_text.specs.Laws.{TapeIsRead}
 use Rattle.tape_text.proofs.LineLaws.{event-again, event-sound, event-none, event-never, line-no_end}
@@ -173,7 +173,7 @@ preceded es c = record { events = es ++ c.events; ending = c.ending }
 
 line_good : (at : ℕ) (e : Event) (line : List ℕ) → IsLineOf e line → span_of e ≡ line_span at line → judged at line ≡ good e
 line_good at e line h s =
-    text_judged at line (Some e) h.utf8 (ap (λ x. event_of x line) (sym s) ∙ event-again e line h.spelled h.texts h.read)
+    text_judged at line (Some e) h.utf8 (ap (λ x. event_of x line) (sym s) ∙ event-again e line h.spelled h.texts)
 
 tape-before : (at : ℕ) (es : List Event) (front back : List ℕ) → IsTapeFrom at es front → coming_from at (front ++ back) ≡ preceded es (coming_from (at + length front) back)
 unfolding preceded

@@ -1,5 +1,5 @@
 -- Words up to a space, and numbers that are words.
-use Rattle.std.proofs.Common.{ℕ, zero, suc, ◌<◌, ◌^◌, ◌≡◌, ◌≢◌, List, [], ◌∷◌, ◌++◌, Option, None, Some, length, get_or, drop, take, sym, refl, ap, ◌∙◌, inl, inr, arith}
+use Rattle.std.proofs.Common.{ℕ, zero, suc, ◌<◌, ◌≤◌, ◌^◌, ◌≡◌, ◌≢◌, List, [], ◌∷◌, ◌++◌, Option, None, Some, length, get_or, drop, take, sym, refl, ap, ◌∙◌, inl, inr, arith}
 use Rattle.std.proofs.lemmas.Bool.Decides.{nat_tests}
 use Rattle.std.proofs.lemmas.Bool.{cases_eq}
 use Rattle.std.proofs.lemmas.Fmt.{decimal_is_IsNumeral_wide}
@@ -7,7 +7,7 @@ use Rattle.std.proofs.lemmas.Str.Parse.{digit_at}
 use Rattle.std.specs.Option.{option_map}
 use Rattle.std.specs.Fmt.{decimal}
 use Rattle.tape_text.specs.Fronts.{until_space, number_of, number_at}
-use Rattle.tape_text.proofs.Numbers.{number-again, number-takes}
+use Rattle.tape_text.proofs.Decimals.{number-again, number-takes}
 
 until-other : (b : ℕ) (bs : List ℕ) → b ≢ 32 → until_space (b ∷ bs) ≡ (b ∷ (until_space bs).0, (until_space bs).1)
 unfolding until_space
@@ -35,13 +35,13 @@ abbrev pub EndsWord : List ℕ → Type 0
 EndsWord [] = Unit {0}
 EndsWord (b ∷ bs) = b ≡ 32
 
-until-again : (xs rest : List ℕ) → ((i : ℕ) → i < length xs → get_or xs i 0 ≢ 32) → EndsWord rest → until_space (xs ++ rest) ≡ (xs, rest)
+pub until-again : (xs rest : List ℕ) → ((i : ℕ) → i < length xs → get_or xs i 0 ≢ 32) → EndsWord rest → until_space (xs ++ rest) ≡ (xs, rest)
 unfolding until_space
 until-again [] [] p e = refl
 until-again [] (b ∷ bs) p e = (rw e refl)
 until-again (x ∷ xs) rest p e = until-other x (xs ++ rest) (p 0 (omega arith)) ∙ ap (λ q. (x ∷ q.0, q.1)) (until-again xs rest (λ i q. p (suc i) (omega arith)) e)
 
-until-takes : (l : List ℕ) → l ≡ (until_space l).0 ++ (until_space l).1
+pub until-takes : (l : List ℕ) → l ≡ (until_space l).0 ++ (until_space l).1
 unfolding until_space
 until-takes [] = refl
 until-takes (b ∷ bs) = elim (cases_eq b 32) [
@@ -49,22 +49,23 @@ until-takes (b ∷ bs) = elim (cases_eq b 32) [
   | inr n ↦ let q = until-other b bs n in ap (λ x. b ∷ x) (until-takes bs) ∙ sym (ap (λ q. q.0 ++ q.1) q)
 ]
 
-decimal-no_space : (n : ℕ) → n < 10 ^ 64 → (i : ℕ) → i < length (decimal n) → get_or (decimal n) i 0 ≢ 32
+pub decimal-no_space : (n : ℕ) → n < 10 ^ 64 → (i : ℕ) → i < length (decimal n) → get_or (decimal n) i 0 ≢ 32
 decimal-no_space n h i l = let d = digit_at (decimal n) i ((decimal_is_IsNumeral_wide n h).0.1) l in omega (arith, d.0)
 
-pub number_at-again : (n : ℕ) (rest : List ℕ) → n < 2 ^ 64 → EndsWord rest → number_at (decimal n ++ rest) ≡ Some (n, rest)
+pub number_at-again : (bits n : ℕ) (rest : List ℕ) → 2 ^ bits ≤ 10 ^ 64 → n < 2 ^ bits → EndsWord rest → number_at bits (decimal n ++ rest) ≡ Some (n, rest)
 unfolding number_at
-number_at-again n rest h e =
-    let w : until_space (decimal n ++ rest) ≡ (decimal n, rest) = until-again (decimal n) rest (decimal-no_space n (omega arith)) e in
-    rw (w, number-again 64 n h (omega arith)) refl
+number_at-again bits n rest wide h e =
+    let w : until_space (decimal n ++ rest) ≡ (decimal n, rest) = until-again (decimal n) rest (decimal-no_space n (omega (arith, wide, h))) e in
+    rw (w, number-again bits n h (omega (arith, wide, h))) refl
 
-mapped : (o : Option ℕ) (rest : List ℕ) (p : ℕ × List ℕ) → option_map (λ n. (n, rest)) o ≡ Some p → (o ≡ Some p.0) × (rest ≡ p.1)
+-- what a word was read as, and what stands behind it
+pub mapped : {A : Type 0} (o : Option A) (rest : List ℕ) (p : A × List ℕ) → option_map (λ n. (n, rest)) o ≡ Some p → (o ≡ Some p.0) × (rest ≡ p.1)
 mapped None rest p h = absurd (let f : None ≡ Some p = h in cc)
 mapped (Some n) rest p h = let e : (n, rest) ≡ p = cc in (ap (λ q. Some q.0) e, ap (λ q. q.1) e)
 
-pub number_at-takes : (l : List ℕ) (p : ℕ × List ℕ) → number_at l ≡ Some p → (p.0 < 2 ^ 64) × (l ≡ decimal p.0 ++ p.1)
+pub number_at-takes : (bits : ℕ) (l : List ℕ) (p : ℕ × List ℕ) → number_at bits l ≡ Some p → (p.0 < 2 ^ bits) × (l ≡ decimal p.0 ++ p.1)
 unfolding number_at
-number_at-takes l p h =
-    let m = mapped (number_of 64 (until_space l).0) (until_space l).1 p h in
-    let t = number-takes 64 p.0 (until_space l).0 m.0 in
+number_at-takes bits l p h =
+    let m = mapped (number_of bits (until_space l).0) (until_space l).1 p h in
+    let t = number-takes bits p.0 (until_space l).0 m.0 in
     (t.0, until-takes l ∙ ap (λ x. x ++ (until_space l).1) t.1 ∙ ap (λ x. decimal p.0 ++ x) m.1)

@@ -1,52 +1,122 @@
--- Reading a line: which event it is.
-use Rattle.std.specs.Prelude.{ℕ, List, [], ◌∷◌, Option, None, Some, option_map, option_and_then, codes}
+-- Reading the body of a line: what it says before its metadata.
+use Rattle.std.specs.Prelude.{ℕ, List, [], ◌∷◌, Bool, true, false, not, Option, None, Some, option_map, codes}
 use Rattle.std.specs.Option.{option_or}
 use Rattle.semantics.specs.Texts.{Phrase}
-use Rattle.semantics.specs.Events.{Span, Note, u64, named, scalar, key, of_struct, object_kind, Event, leaf, start, stop}
-use Rattle.tape_text.specs.Fronts.{strip, number_at, text_at}
+use Rattle.semantics.specs.Events.{Scalar, unit, null, bool, char, i64, u64, i128, u128, str, bytes, Bracket, of_struct, of_sequence}
+use Rattle.semantics.specs.Lines.{is_empty_list}
+use Rattle.tape_text.specs.Fronts.{strip, number_at, signed_at, bytes_at}
+use Rattle.tape_text.specs.Quoted.{unquoted, text_at, char_at}
 
--- the place of a line, with no metadata
-abbrev pub line_note : Span → Note
-line_note span = record { span = span; metadata = None }
+-- what a line says before its metadata
+pub data Body : Type 0 where
+  opens : Bracket → Body
+  closes : Bracket → Body
+  next_field : Body
+  -- a key, perhaps with a name
+  names : Option Phrase → Body
+  -- the tag of a variant, where it has one
+  tags : Option (List ℕ) → Body
+  holds : Scalar → Body
 
--- the words that are events by themselves
-abbrev pub bare_words : Note → List (List ℕ × Event)
-bare_words n = (codes "{", start of_struct object_kind n) ∷ (codes "}", stop of_struct n) ∷ []
+-- bytes that aren't empty, or another scalar
+abbrev pub scalar_takes_metadata : Scalar → Bool
+scalar_takes_metadata (bytes t) = not (is_empty_list t.bytes)
+scalar_takes_metadata _ = true
 
-abbrev pub fixed : List ℕ → Event → List ℕ → Option (Event × List ℕ)
-fixed word e text = option_map (λ rest. (e, rest)) (strip word text)
+-- metadata may stand behind it
+abbrev pub takes_metadata : Body → Bool
+takes_metadata (closes b) = false
+takes_metadata next_field = false
+takes_metadata (holds s) = scalar_takes_metadata s
+takes_metadata _ = true
 
-abbrev pub bare_in : List (List ℕ × Event) → List ℕ → Option (Event × List ℕ)
+-- a body, and what stands behind it
+abbrev pub Found : Type 0
+Found = Option (Body × List ℕ)
+
+abbrev pub Reader : Type 0
+Reader = List ℕ → Found
+
+-- the words that are bodies by themselves
+abbrev pub bare_words : List (List ℕ × Body)
+bare_words =
+    (codes "{", opens of_struct)
+    ∷ (codes "}", closes of_struct)
+    ∷ (codes "[", opens of_sequence)
+    ∷ (codes "]", closes of_sequence)
+    ∷ (codes "o", next_field)
+    ∷ (codes "unit", holds unit)
+    ∷ (codes "null", holds null)
+    ∷ (codes "true", holds (bool true))
+    ∷ (codes "false", holds (bool false))
+    ∷ (codes "k -", names None)
+    ∷ (codes "v -", tags None)
+    ∷ []
+
+abbrev pub fixed : List ℕ → Body → Reader
+fixed word body text = option_map (λ rest. (body, rest)) (strip word text)
+
+abbrev pub bare_in : List (List ℕ × Body) → Reader
 bare_in [] text = None
 bare_in (w ∷ ws) text = option_or (fixed w.0 w.1 text) (bare_in ws text)
 
--- an event that is a word by itself
-unfoldable pub bare_at : Note → List ℕ → Option (Event × List ℕ)
-bare_at n text = bare_in (bare_words n) text
+-- a body that is a word
+unfoldable pub bare_at : Reader
+bare_at text = bare_in bare_words text
 
--- a word and a text
-abbrev pub text_body : List ℕ → (Phrase → Event) → List ℕ → Option (Event × List ℕ)
-text_body word make text = option_and_then (λ rest. option_map (λ p. (make p.0, p.1)) (text_at rest)) (strip word text)
+abbrev pub owned_bytes : List ℕ → Scalar
+owned_bytes bs = bytes (record { bytes = bs; borrowed = false })
 
--- a word and a number
-abbrev pub number_body : List ℕ → (ℕ → Event) → List ℕ → Option (Event × List ℕ)
-number_body word make text = option_and_then (λ rest. option_map (λ p. (make p.0, p.1)) (number_at rest)) (strip word text)
+-- what stands behind the word of each other body
+unfoldable pub key_at : Reader
+key_at text = option_map (λ p. (names (Some p.0), p.1)) (text_at text)
 
-abbrev pub make_key : Note → Phrase → Event
-make_key n t = leaf (key (named t None n))
+unfoldable pub str_at : Reader
+str_at text = option_map (λ p. (holds (str p.0), p.1)) (text_at text)
 
-abbrev pub make_u64 : Note → ℕ → Event
-make_u64 n k = leaf (scalar (u64 k) n)
+unfoldable pub letter_at : Reader
+letter_at text = option_map (λ p. (holds (char p.0), p.1)) (char_at text)
 
--- an event, and what stands behind it
-unfoldable pub body_at : Note → List ℕ → Option (Event × List ℕ)
-body_at n text = option_or (bare_at n text) (option_or (text_body (codes "k ") (make_key n) text) (number_body (codes "u ") (make_u64 n) text))
+unfoldable pub hex_at : Reader
+hex_at text = option_map (λ p. (holds (owned_bytes p.0), p.1)) (bytes_at text)
 
-abbrev pub whole : Option (Event × List ℕ) → Option Event
-whole None = None
-whole (Some (e, [])) = Some e
-whole (Some (e, b ∷ bs)) = None
+unfoldable pub variant_at : Reader
+variant_at text = option_map (λ p. (tags (Some p.0), p.1)) (unquoted text)
 
--- the event of a line that stands there
-unfoldable pub event_of : Span → List ℕ → Option Event
-event_of span line = whole (body_at (line_note span) line)
+unfoldable pub small_at : Reader
+small_at text = option_map (λ p. (holds (u64 p.0), p.1)) (number_at 64 text)
+
+unfoldable pub small_signed_at : Reader
+small_signed_at text = option_map (λ p. (holds (i64 p.0), p.1)) (signed_at 63 64 text)
+
+unfoldable pub large_at : Reader
+large_at text = option_map (λ p. (holds (u128 p.0), p.1)) (number_at 128 text)
+
+unfoldable pub large_signed_at : Reader
+large_signed_at text = option_map (λ p. (holds (i128 p.0), p.1)) (signed_at 127 128 text)
+
+-- the words that other bodies begin with
+abbrev pub rows : List (List ℕ × Reader)
+rows =
+    (codes "k ", key_at)
+    ∷ (codes "s ", str_at)
+    ∷ (codes "c ", letter_at)
+    ∷ (codes "b ", hex_at)
+    ∷ (codes "v \"", variant_at)
+    ∷ (codes "u ", small_at)
+    ∷ (codes "i ", small_signed_at)
+    ∷ (codes "U ", large_at)
+    ∷ (codes "I ", large_signed_at)
+    ∷ []
+
+abbrev pub by_word : Reader → Found → Option (List ℕ) → Found
+by_word read others None = others
+by_word read others (Some rest) = read rest
+
+abbrev pub body_in : List (List ℕ × Reader) → Reader
+body_in [] text = None
+body_in (row ∷ more) text = by_word row.1 (body_in more text) (strip row.0 text)
+
+-- a body, and what stands behind it
+unfoldable pub body_at : Reader
+body_at text = option_or (bare_at text) (body_in rows text)

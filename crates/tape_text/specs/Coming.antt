@@ -4,7 +4,7 @@ use Rattle.std.specs.Str.{is_utf8, chars}
 use Rattle.semantics.specs.Events.{Event}
 use Rattle.semantics.specs.Faults.{unexpected_char, unexpected_eof, invalid_utf8, Fault, Ending, ends, stops, Coming}
 use Rattle.semantics.specs.Tapes.{line_span, first_or_end, at_line}
-use Rattle.tape_text.specs.Bodies.{event_of}
+use Rattle.tape_text.specs.Reading.{event_of}
 
 -- the lines of the bytes, each without its line feed, and what stands behind the last of these
 pub record Lines : Type 0 where

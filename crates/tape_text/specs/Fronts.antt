@@ -1,15 +1,19 @@
 -- Reading a front of a line: what stands there, and what stands behind it.
-use Rattle.std.specs.Prelude.{ℕ, ◌^◌, true, List, [], ◌∷◌, ◌++◌, Bool, ◌==◌, ◌&&◌, ◌||◌, cond, nat_lt, length, slice_index, Option, None, Some, option_map, option_and_then}
+use Rattle.std.specs.Prelude.{ℕ, zero, suc, ℤ, pos, negsuc, ◌+◌, ◌-◌, ◌*◌, ◌^◌, List, [], ◌∷◌, Bool, ◌==◌, ◌&&◌, ◌||◌, cond, nat_lt, nat_le, length, slice_index, codes, Option, None, Some, option_map, option_and_then}
 use Rattle.std.specs.Fmt.{decimal}
 use Rattle.std.specs.Str.{bytes_eq}
 use Rattle.std.specs.Str.Parse.{digits_value}
-use Rattle.semantics.specs.Texts.{Phrase, is_special}
 
 -- what stands behind a front, where it stands
 abbrev pub strip : List ℕ → List ℕ → Option (List ℕ)
 strip [] text = Some text
 strip (p ∷ ps) [] = None
 strip (p ∷ ps) (b ∷ bs) = cond (b == p) (strip ps bs) None
+
+-- the bytes before the first space, and those from it on
+unfoldable pub until_space : List ℕ → List ℕ × List ℕ
+until_space [] = ([], [])
+until_space (b ∷ bs) = cond (b == 32) ([], b ∷ bs) (b ∷ (until_space bs).0, (until_space bs).1)
 
 -- the number below 2 to the power of `bits` that is spelled so
 unfoldable pub number_of : ℕ → List ℕ → Option ℕ
@@ -19,28 +23,53 @@ number_of bits text = let n = digits_value 10 text in cond (nat_lt n (2 ^ bits) 
 abbrev pub is_padded : List ℕ → Bool
 is_padded text = slice_index text 0 == 43 || (slice_index text 0 == 48 && nat_lt 1 (length text))
 
--- the bytes before the first space, and those from it on
-unfoldable pub until_space : List ℕ → List ℕ × List ℕ
-until_space [] = ([], [])
-until_space (b ∷ bs) = cond (b == 32) ([], b ∷ bs) (b ∷ (until_space bs).0, (until_space bs).1)
-
 -- a number up to the end of the word
-unfoldable pub number_at : List ℕ → Option (ℕ × List ℕ)
-number_at text = option_map (λ n. (n, (until_space text).1)) (number_of 64 (until_space text).0)
+unfoldable pub number_at : ℕ → List ℕ → Option (ℕ × List ℕ)
+number_at bits text = option_map (λ n. (n, (until_space text).1)) (number_of bits (until_space text).0)
 
-abbrev pub with_front : List ℕ → Option (List ℕ × List ℕ) → Option (List ℕ × List ℕ)
-with_front xs None = None
-with_front xs (Some p) = Some (xs ++ p.0, p.1)
+-- the number below 0 of this size, where it fits
+abbrev pub negative : ℕ → ℕ → Option ℤ
+negative half zero = None
+negative half (suc m) = cond (nat_lt m (2 ^ half)) (Some (negsuc m)) None
 
--- what stands before the closing quote, where nothing there needs a spelling
-unfoldable pub unquoted : List ℕ → Option (List ℕ × List ℕ)
-unquoted [] = None
-unquoted (b ∷ bs) = cond (b == 34) (Some ([], bs)) (cond (is_special b) None (with_front (b ∷ []) (unquoted bs)))
+-- the number of this size with a sign, where it fits
+abbrev pub positive : ℕ → ℕ → Option ℤ
+positive half n = cond (nat_lt n (2 ^ half)) (Some (pos n)) None
 
--- Each text is borrowed from the tape.
-abbrev pub borrowed_text : List ℕ × List ℕ → Phrase × List ℕ
-borrowed_text p = (record { bytes = p.0; borrowed = true }, p.1)
+abbrev pub signed_by : ℕ → ℕ → List ℕ → Option (List ℕ) → Option ℤ
+signed_by half bits text None = option_and_then (positive half) (number_of bits text)
+signed_by half bits text (Some digits) = option_and_then (negative half) (number_of bits digits)
 
--- a text between quotes
-unfoldable pub text_at : List ℕ → Option (Phrase × List ℕ)
-text_at text = option_and_then (λ rest. option_map borrowed_text (unquoted rest)) (strip (34 ∷ []) text)
+-- the number with a sign that is spelled so
+unfoldable pub signed_of : ℕ → ℕ → List ℕ → Option ℤ
+signed_of half bits text = signed_by half bits text (strip (codes "-") text)
+
+-- a number with a sign up to the end of the word
+unfoldable pub signed_at : ℕ → ℕ → List ℕ → Option (ℤ × List ℕ)
+signed_at half bits text = option_map (λ z. (z, (until_space text).1)) (signed_of half bits (until_space text).0)
+
+-- the value of a hexadecimal digit, whose letters are small
+abbrev pub digit : ℕ → Option ℕ
+digit c = cond (nat_le 48 c && nat_le c 57) (Some (c - 48)) (cond (nat_le 97 c && nat_le c 102) (Some (c - 97 + 10)) None)
+
+abbrev pub with_byte : ℕ → Option (List ℕ) → Option (List ℕ)
+with_byte b o = option_map (λ bs. b ∷ bs) o
+
+-- the value of the first digit of a pair, or the end of one
+abbrev pub paired : (Option ℕ → Option (List ℕ)) → Option ℕ → ℕ → Option (List ℕ)
+paired later None value = later (Some value)
+paired later (Some high) value = with_byte (16 * high + value) (later None)
+
+-- where no pair is half read
+abbrev pub unpaired : Option ℕ → Option (List ℕ)
+unpaired None = Some []
+unpaired (Some high) = None
+
+-- the bytes whose pairs of digits these are, where the first of a pair may stand before
+unfoldable pub unhexed : Option ℕ → List ℕ → Option (List ℕ)
+unhexed high [] = unpaired high
+unhexed high (c ∷ cs) = option_and_then (paired (λ h. unhexed h cs) high) (digit c)
+
+-- bytes up to the end of the word
+unfoldable pub bytes_at : List ℕ → Option (List ℕ × List ℕ)
+bytes_at text = option_map (λ bs. (bs, (until_space text).1)) (unhexed None (until_space text).0)

@@ -5,7 +5,7 @@ use Rattle.semantics.specs.Faults.{Ending, ends}
 use Rattle.semantics.specs.Lines.{IsLineOf, IsNoLine}
 use Rattle.semantics.specs.Tapes.{IsTape}
 use Rattle.semantics.specs.Recoding.{Comes}
-use Rattle.tape_text.specs.Bodies.{event_of}
+use Rattle.tape_text.specs.Reading.{event_of}
 use Rattle.tape_text.specs.Coming.{coming_from}
 
 -- A line is read as an event exactly where it is the event's line, and as none exactly where no event has it.

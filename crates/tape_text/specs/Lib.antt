@@ -1,5 +1,9 @@
 pub mod Fronts
+pub mod Quoted
+pub mod Suffixes
 pub mod Bodies
+pub mod Reading
+pub mod Views
 pub mod Coming
 pub mod Laws
 pub mod Parser

@@ -1,64 +1,234 @@
-//! Reading a line: which event it is.
-ghost use Rattle.std.specs.Prelude.{◌≡◌};
+//! Reading the body of a line: which event it is.
+ghost use Rattle.std.specs.Prelude.{◌≡◌, IfOk};
 ghost use Rattle.std.specs.Option.{option_map};
-ghost use Rattle.event_core.specs.Events.{event_of as view_of};
-ghost use Rattle.event_core.specs.Metadata.{span_view};
-ghost use Rattle.tape_text.specs.Bodies.{line_note, bare_at, body_at, event_of};
+ghost use Rattle.tape_text.specs.Bodies.{bare_at, key_at, str_at, letter_at, hex_at, variant_at, body_at};
+ghost use Rattle.tape_text.specs.Bodies.{small_at, small_signed_at, large_at, large_signed_at};
+ghost use Rattle.tape_text.specs.Views.{body_of};
 
-use crate::front::{after, number_at, text_at};
-use event_core::{ContainerKind, FieldKey, ParseEvent, ParseEventKind, ScalarValue, Span};
+use crate::front::{after, bytes_at};
+use crate::numbers::{i64_at, i128_at, u64_at, u128_at};
+use crate::quoted::{char_at, text_at, unquoted};
+use event_core::ScalarValue;
+use shape_core::{Bytes, OutOfMemory, Text};
+use std::alloc::Global;
 
-/// An event that is a word by itself, and what stands behind it.
+/// What a line says before its metadata.
+#[derive(Drop)]
+pub enum LineBody<'de> {
+    /// An object begins.
+    StructStart,
+    /// It ends.
+    StructEnd,
+    /// A list begins.
+    SequenceStart,
+    /// It ends.
+    SequenceEnd,
+    /// In place of a key.
+    OrderedField,
+    /// A key, perhaps with a name.
+    Key(Option<Text<'de>>),
+    /// The tag of a variant, where it has one.
+    Tag(Option<&'de str>),
+    /// A value without parts.
+    Scalar(ScalarValue<'de>),
+}
+
+/// A body that is a word, and what stands behind it.
 #[tactic(auto, unfolding(crate::specs::Bodies::bare_at))]
-fn bare_at(text: &str, span: Span) -> Option<(ParseEvent<'_>, &str)>
-    ensures { option_map (λ found. (view_of found.0, found.1.now)) result ≡ bare_at (line_note (span_view span)) text.now }
+fn bare_at(text: &str) -> Option<(LineBody<'_>, &str)>
+    ensures { option_map (λ p. (body_of p.0, p.1.now)) result ≡ bare_at text.now }
 {
     if let Some(rest) = after(text, "{") {
-        let kind = ParseEventKind::StructStart(ContainerKind::Object);
-        return Some((ParseEvent::new(kind, span), rest));
+        return Some((LineBody::StructStart, rest));
     }
     if let Some(rest) = after(text, "}") {
-        return Some((ParseEvent::new(ParseEventKind::StructEnd, span), rest));
+        return Some((LineBody::StructEnd, rest));
+    }
+    if let Some(rest) = after(text, "[") {
+        return Some((LineBody::SequenceStart, rest));
+    }
+    if let Some(rest) = after(text, "]") {
+        return Some((LineBody::SequenceEnd, rest));
+    }
+    if let Some(rest) = after(text, "o") {
+        return Some((LineBody::OrderedField, rest));
+    }
+    if let Some(rest) = after(text, "unit") {
+        return Some((LineBody::Scalar(ScalarValue::Unit), rest));
+    }
+    if let Some(rest) = after(text, "null") {
+        return Some((LineBody::Scalar(ScalarValue::Null), rest));
+    }
+    if let Some(rest) = after(text, "true") {
+        return Some((LineBody::Scalar(ScalarValue::Bool(true)), rest));
+    }
+    if let Some(rest) = after(text, "false") {
+        return Some((LineBody::Scalar(ScalarValue::Bool(false)), rest));
+    }
+    if let Some(rest) = after(text, "k -") {
+        return Some((LineBody::Key(None), rest));
+    }
+    if let Some(rest) = after(text, "v -") {
+        return Some((LineBody::Tag(None), rest));
     }
     None
 }
 
-/// An event, and what stands behind it.
-#[tactic(auto, unfolding(crate::specs::Bodies::body_at))]
-fn body_at(text: &str, span: Span) -> Option<(ParseEvent<'_>, &str)>
-    ensures { option_map (λ found. (view_of found.0, found.1.now)) result ≡ body_at (line_note (span_view span)) text.now }
+/// The name of a key, and what stands behind it.
+#[tactic(auto, unfolding(crate::specs::Bodies::key_at))]
+fn key_at<'de>(
+    alloc: Global,
+    text: &'de str,
+) -> Result<Option<(LineBody<'de>, &'de str)>, OutOfMemory>
+    ensures { IfOk result (λ found. option_map (λ p. (body_of p.0, p.1.now)) found ≡ key_at text.now) }
 {
-    if let Some(found) = bare_at(text, span) {
-        return Some(found);
+    match text_at(alloc, text) {
+        Ok(Some((name, rest))) => Ok(Some((LineBody::Key(Some(name)), rest))),
+        Ok(None) => Ok(None),
+        Err(refused) => Err(refused),
+    }
+}
+
+/// A text, and what stands behind it.
+#[tactic(auto, unfolding(crate::specs::Bodies::str_at))]
+fn str_at<'de>(
+    alloc: Global,
+    text: &'de str,
+) -> Result<Option<(LineBody<'de>, &'de str)>, OutOfMemory>
+    ensures { IfOk result (λ found. option_map (λ p. (body_of p.0, p.1.now)) found ≡ str_at text.now) }
+{
+    match text_at(alloc, text) {
+        Ok(Some((inner, rest))) => Ok(Some((LineBody::Scalar(ScalarValue::Str(inner)), rest))),
+        Ok(None) => Ok(None),
+        Err(refused) => Err(refused),
+    }
+}
+
+/// A character, and what stands behind it.
+#[tactic(auto, unfolding(crate::specs::Bodies::letter_at))]
+fn letter_at<'de>(
+    alloc: Global,
+    text: &'de str,
+) -> Result<Option<(LineBody<'de>, &'de str)>, OutOfMemory>
+    ensures { IfOk result (λ found. option_map (λ p. (body_of p.0, p.1.now)) found ≡ letter_at text.now) }
+{
+    match char_at(alloc, text) {
+        Ok(Some((c, rest))) => Ok(Some((LineBody::Scalar(ScalarValue::Char(c)), rest))),
+        Ok(None) => Ok(None),
+        Err(refused) => Err(refused),
+    }
+}
+
+/// Bytes in hexadecimal, and what stands behind them.
+#[tactic(auto, unfolding(crate::specs::Bodies::hex_at))]
+fn hex_at<'de>(
+    alloc: Global,
+    text: &'de str,
+) -> Result<Option<(LineBody<'de>, &'de str)>, OutOfMemory>
+    ensures { IfOk result (λ found. option_map (λ p. (body_of p.0, p.1.now)) found ≡ hex_at text.now) }
+{
+    match bytes_at(alloc, text) {
+        Ok(Some((bytes, rest))) => {
+            let value = ScalarValue::Bytes(Bytes::Owned(bytes));
+            Ok(Some((LineBody::Scalar(value), rest)))
+        }
+        Ok(None) => Ok(None),
+        Err(refused) => Err(refused),
+    }
+}
+
+/// The name of a variant behind its first quote, and what stands behind the other.
+#[tactic(auto, unfolding(crate::specs::Bodies::variant_at))]
+fn variant_at(text: &str) -> Option<(LineBody<'_>, &str)>
+    ensures { option_map (λ p. (body_of p.0, p.1.now)) result ≡ variant_at text.now }
+{
+    match unquoted(text) {
+        Some((name, rest)) => Some((LineBody::Tag(Some(name)), rest)),
+        None => None,
+    }
+}
+
+/// A number of 64 bits, and what stands behind it.
+#[tactic(auto, unfolding(crate::specs::Bodies::small_at))]
+fn small_at(text: &str) -> Option<(LineBody<'_>, &str)>
+    ensures { option_map (λ p. (body_of p.0, p.1.now)) result ≡ small_at text.now }
+{
+    match u64_at(text) {
+        Some((n, rest)) => Some((LineBody::Scalar(ScalarValue::U64(n)), rest)),
+        None => None,
+    }
+}
+
+/// A number of 64 bits with a sign, and what stands behind it.
+#[tactic(auto, unfolding(crate::specs::Bodies::small_signed_at))]
+fn small_signed_at(text: &str) -> Option<(LineBody<'_>, &str)>
+    ensures { option_map (λ p. (body_of p.0, p.1.now)) result ≡ small_signed_at text.now }
+{
+    match i64_at(text) {
+        Some((n, rest)) => Some((LineBody::Scalar(ScalarValue::I64(n)), rest)),
+        None => None,
+    }
+}
+
+/// A number of 128 bits, and what stands behind it.
+#[tactic(auto, unfolding(crate::specs::Bodies::large_at))]
+fn large_at(text: &str) -> Option<(LineBody<'_>, &str)>
+    ensures { option_map (λ p. (body_of p.0, p.1.now)) result ≡ large_at text.now }
+{
+    match u128_at(text) {
+        Some((n, rest)) => Some((LineBody::Scalar(ScalarValue::U128(n)), rest)),
+        None => None,
+    }
+}
+
+/// A number of 128 bits with a sign, and what stands behind it.
+#[tactic(auto, unfolding(crate::specs::Bodies::large_signed_at))]
+fn large_signed_at(text: &str) -> Option<(LineBody<'_>, &str)>
+    ensures { option_map (λ p. (body_of p.0, p.1.now)) result ≡ large_signed_at text.now }
+{
+    match i128_at(text) {
+        Some((n, rest)) => Some((LineBody::Scalar(ScalarValue::I128(n)), rest)),
+        None => None,
+    }
+}
+
+/// The body of a line, and what stands behind it.
+#[tactic(auto, unfolding(crate::specs::Bodies::body_at))]
+pub fn body_at<'de>(
+    alloc: Global,
+    text: &'de str,
+) -> Result<Option<(LineBody<'de>, &'de str)>, OutOfMemory>
+    ensures { IfOk result (λ found. option_map (λ p. (body_of p.0, p.1.now)) found ≡ body_at text.now) }
+{
+    if let Some(found) = bare_at(text) {
+        return Ok(Some(found));
     }
     if let Some(rest) = after(text, "k ") {
-        return match text_at(rest) {
-            Some((name, rest)) => {
-                let kind = ParseEventKind::FieldKey(FieldKey::Name(name));
-                Some((ParseEvent::new(kind, span), rest))
-            }
-            None => None,
-        };
+        return key_at(alloc, rest);
+    }
+    if let Some(rest) = after(text, "s ") {
+        return str_at(alloc, rest);
+    }
+    if let Some(rest) = after(text, "c ") {
+        return letter_at(alloc, rest);
+    }
+    if let Some(rest) = after(text, "b ") {
+        return hex_at(alloc, rest);
+    }
+    if let Some(rest) = after(text, "v \"") {
+        return Ok(variant_at(rest));
     }
     if let Some(rest) = after(text, "u ") {
-        return match number_at(rest) {
-            Some((n, rest)) => {
-                let kind = ParseEventKind::Scalar(ScalarValue::U64(n));
-                Some((ParseEvent::new(kind, span), rest))
-            }
-            None => None,
-        };
+        return Ok(small_at(rest));
     }
-    None
-}
-
-/// The event of the line that stands there, none where no event has this line.
-#[tactic(auto, unfolding(crate::specs::Bodies::event_of))]
-pub fn event_of(line: &str, span: Span) -> Option<ParseEvent<'_>>
-    ensures { option_map view_of result ≡ event_of (span_view span) line.now }
-{
-    match body_at(line, span) {
-        Some((event, "")) => Some(event),
-        _ => None,
+    if let Some(rest) = after(text, "i ") {
+        return Ok(small_signed_at(rest));
     }
+    if let Some(rest) = after(text, "U ") {
+        return Ok(large_at(rest));
+    }
+    if let Some(rest) = after(text, "I ") {
+        return Ok(large_signed_at(rest));
+    }
+    Ok(None)
 }

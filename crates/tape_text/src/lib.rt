@@ -5,15 +5,19 @@
 
 mod body;
 mod bytes;
+mod event;
 mod front;
-mod laws;
+mod grammar;
 mod line;
+mod numbers;
 mod parser;
+mod quoted;
 mod spelling;
+mod suffix;
 mod writer;
 
 pub use bytes::TapeBytes;
-pub use laws::{line_is_read, one_line_one_event, tape_is_read};
+pub use grammar::{line_is_read, one_line_one_event, tape_is_read};
 pub use parser::TapeParser;
 pub use writer::{NoFault, TapeWriter};
 

@@ -1,13 +1,24 @@
 //! A line of a tape: its event, or its fault.
 ghost use Rattle.std.specs.Prelude.{◌≡◌, ◌<◌, ◌≤◌, ◌≢◌, ℕ, length, take, get_or, Some, None, MatchOption};
 ghost use Rattle.std.specs.Str.{chars};
-ghost use Rattle.semantics.specs.Faults.{invalid_utf8, unexpected_eof};
+ghost use Rattle.semantics.specs.Faults.{invalid_utf8, unexpected_char, unexpected_eof};
 ghost use Rattle.semantics.specs.Tapes.{first_or_end};
 ghost use Rattle.event_core.specs.Faults.{fault_kind_of, parse_fault};
+ghost use Rattle.event_core.specs.Metadata.{span_view};
 ghost use Rattle.tape_text.specs.Parser.{JudgesLine, StandsAt};
 
-use crate::body::event_of;
+use crate::event::event_of;
 use event_core::{DeserializeErrorKind, ParseError, ParseEvent, Span};
+use std::alloc::Global;
+
+/// Why no event was read.
+#[derive(Drop)]
+pub enum Stop {
+    /// No memory was there for a text of the line.
+    NoMemory,
+    /// No event has this line.
+    Bad(ParseError),
+}
 
 /// The first character of a line, a line feed where it is empty.
 fn first_char(line: &str) -> char
@@ -32,8 +43,19 @@ fn not_utf8(line: &[u8]) -> DeserializeErrorKind
     }
 }
 
+/// The fault of a text that is no line.
+fn no_line(line: &str, span: Span) -> ParseError
+    ensures { parse_fault result ≡ record { kind = unexpected_char (first_or_end (chars line.now)); span = Some (span_view span); path = None } }
+{
+    let kind = DeserializeErrorKind::UnexpectedChar {
+        ch: first_char(line),
+        expected: "tape line",
+    };
+    ParseError::new(span, kind)
+}
+
 /// The event of a line that stands at a byte of the tape, or its fault.
-fn judged(line: &[u8], at: usize) -> Result<ParseEvent<'_>, ParseError>
+fn judged<'de>(alloc: Global, line: &'de [u8], at: usize) -> Result<ParseEvent<'de>, Stop>
     ensures { JudgesLine at line.now result }
 {
     let span = Span {
@@ -41,17 +63,12 @@ fn judged(line: &[u8], at: usize) -> Result<ParseEvent<'_>, ParseError>
         len: line.len(),
     };
     let Ok(text) = str::from_utf8(line) else {
-        return Err(ParseError::new(span, not_utf8(line)));
+        return Err(Stop::Bad(ParseError::new(span, not_utf8(line))));
     };
-    match event_of(text, span) {
-        Some(event) => Ok(event),
-        None => {
-            let kind = DeserializeErrorKind::UnexpectedChar {
-                ch: first_char(text),
-                expected: "tape line",
-            };
-            Err(ParseError::new(span, kind))
-        }
+    match event_of(alloc, text, span) {
+        Ok(Some(event)) => Ok(event),
+        Ok(None) => Err(Stop::Bad(no_line(text, span))),
+        Err(_) => Err(Stop::NoMemory),
     }
 }
 
@@ -74,7 +91,11 @@ fn unfinished(at: usize, len: usize) -> ParseError
 }
 
 /// The event of the line at a place, with the place behind it, or the fault that stands there. None at the end.
-pub fn event_at(input: &[u8], at: usize) -> Result<Option<(ParseEvent<'_>, usize)>, ParseError>
+pub fn event_at<'de>(
+    alloc: Global,
+    input: &'de [u8],
+    at: usize,
+) -> Result<Option<(ParseEvent<'de>, usize)>, Stop>
     requires { at ≤ length input.now }
     ensures { StandsAt input.now at result }
 {
@@ -83,10 +104,10 @@ pub fn event_at(input: &[u8], at: usize) -> Result<Option<(ParseEvent<'_>, usize
         return Ok(None);
     }
     let Some(len) = line_end(rest) else {
-        return Err(unfinished(at, rest.len()));
+        return Err(Stop::Bad(unfinished(at, rest.len())));
     };
-    match judged(&rest[..len], at) {
+    match judged(alloc, &rest[..len], at) {
         Ok(event) => Ok(Some((event, at + len + 1))),
-        Err(error) => Err(error),
+        Err(stop) => Err(stop),
     }
 }

@@ -1,9 +1,9 @@
 //! The parser of a tape.
 ghost use Rattle.std.specs.Prelude.{◌≡◌, ◌⊎◌, [], None, IfOk, IfErr, OnErr};
 ghost use Rattle.format_traits.specs.Parsing.{Failed, Met, IsMemory, HasCause};
-ghost use Rattle.tape_text.specs.Parser.{parsing_of, StandsAt, PutNext};
+ghost use Rattle.tape_text.specs.Parser.{parsing_of, LooksAt, PutNext};
 
-use crate::line::event_at;
+use crate::line::{Stop, event_at};
 use event_core::{DeserializeErrorKind, ParseError, ParseEvent, Span};
 use format_traits::FormatParser;
 use std::alloc::Global;
@@ -13,6 +13,7 @@ use std::marker::Model;
 /// A parser of a tape. It takes a line for each event, and stays at a line that is no event's.
 #[derive(Drop)]
 pub struct TapeParser<'de> {
+    alloc: Global,
     input: &'de [u8],
     at: usize,
     faults: u64,
@@ -31,10 +32,11 @@ impl<'de> Model for TapeParser<'de> {
 
 impl<'de> TapeParser<'de> {
     /// A parser at the beginning of a tape. This takes no memory.
-    pub fn new(_alloc: Global, input: &'de [u8]) -> TapeParser<'de>
+    pub fn new(alloc: Global, input: &'de [u8]) -> TapeParser<'de>
         ensures { result ≡ record { input = input.now; at = 0; faults = 0 } }
     {
         TapeParser {
+            alloc,
             input,
             at: 0,
             faults: 0,
@@ -43,13 +45,14 @@ impl<'de> TapeParser<'de> {
 
     /// What stands at its place. A fault is counted.
     fn look(&mut self) -> Result<Option<(ParseEvent<'de>, usize)>, ParseError>
-        ensures stands { StandsAt self.old.input self.old.at result }
+        ensures stands { LooksAt self.old.input self.old.at result }
         ensures kept { self.new ≡ record self.old { faults = self.new.faults } }
         ensures cause { HasCause self.old.faults self.new.faults result }
     {
-        match event_at(self.input, self.at) {
+        match event_at(self.alloc, self.input, self.at) {
             Ok(found) => Ok(found),
-            Err(error) => {
+            Err(Stop::NoMemory) => Err(no_memory(self.at, "text of a line")),
+            Err(Stop::Bad(error)) => {
                 self.faults = self.faults.saturating_add(1);
                 Err(error)
             }
@@ -68,7 +71,7 @@ impl<'de> TapeParser<'de> {
         match self.look() {
             Ok(Some((event, next))) => {
                 if buf.push_back(event).is_err() {
-                    return Err(no_memory(self.at));
+                    return Err(no_memory(self.at, "buffer of events"));
                 }
                 self.at = next;
                 Ok(true)
@@ -80,12 +83,10 @@ impl<'de> TapeParser<'de> {
 }
 
 /// No memory was there for the event of a line.
-fn no_memory(at: usize) -> ParseError
+fn no_memory(at: usize, operation: &'static str) -> ParseError
     ensures { IsMemory result }
 {
-    let kind = DeserializeErrorKind::Alloc {
-        operation: "buffer of events",
-    };
+    let kind = DeserializeErrorKind::Alloc { operation };
     ParseError::new(Span { offset: at, len: 0 }, kind)
 }
 

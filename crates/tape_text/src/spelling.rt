@@ -5,7 +5,7 @@ ghost use Rattle.semantics.specs.Texts.{is_plain};
 ghost use Rattle.semantics.specs.Lines.{escape, quoted, hex_digit, hex_pair, hex};
 ghost use Rattle.tape_text.specs.Writer.{Adds, body_text};
 
-use crate::front::is_plain;
+use crate::quoted::is_plain;
 use shape_core::OutOfMemory;
 
 /// What a line holds before its line feed.

@@ -1,19 +1,89 @@
 //! Tapes both ways, and the faults of lines.
-use crate::{NoFault, TapeParser, TapeWriter};
-use event_core::{ParseError, ParseEvent, ScalarValue};
-use format_traits::{FormatParser, FormatSerializer, WriteStop};
-use shape_core::{Bytes, Text};
+mod damaged;
+mod lines;
+mod ranges;
+mod written;
+
+use crate::TapeParser;
+use event_core::{FieldKey, ParseError, ParseEvent, ParseEventKind, ScalarValue, ValueMeta};
+use format_traits::FormatParser;
+use shape_core::Text;
 use std::alloc::{AllocError, Global};
 use std::collections::VecDeque;
 use std::process::Abort;
 use std::test::Fail;
+
+/// A text, and whether it was copied.
+fn shown_text(alloc: Global, text: &Text<'_>) -> Result<String, AllocError> {
+    let text_itself = text.as_str();
+    if text.is_borrowed() {
+        format!(in alloc; "{text_itself:?}")
+    } else {
+        format!(in alloc; "owned {text_itself:?}")
+    }
+}
+
+/// What is told beside an event or a key.
+fn shown_meta(alloc: Global, meta: Option<&ValueMeta<'_>>) -> Result<String, AllocError> {
+    let mut out = String::new(alloc);
+    let Some(meta) = meta else {
+        return Ok(out);
+    };
+    out.push_str(" with")?;
+    if let Some(tag) = meta.tag() {
+        out.push_str(" tag ")?;
+        out.push_str(shown_text(alloc, tag)?.as_str())?;
+    }
+    if let Some(docs) = meta.doc() {
+        for doc in docs {
+            out.push_str(" doc ")?;
+            out.push_str(shown_text(alloc, doc)?.as_str())?;
+        }
+    }
+    if meta.span().is_some() {
+        out.push_str(" and a place")?;
+    }
+    Ok(out)
+}
+
+fn shown_key(alloc: Global, key: &FieldKey<'_>) -> Result<String, AllocError> {
+    let name = match key.name() {
+        Some(name) => shown_text(alloc, name)?,
+        None => format!(in alloc; "-")?,
+    };
+    let form = match key {
+        FieldKey::Name(_) => "Name",
+        FieldKey::Full(_) => "Full",
+    };
+    let meta = shown_meta(alloc, key.meta())?;
+    format!(in alloc; "{form} {name}{meta}")
+}
+
+/// An event, its place, and what is told beside it.
+fn shown(alloc: Global, event: &ParseEvent<'_>) -> Result<String, AllocError> {
+    let kind = match &event.kind {
+        ParseEventKind::FieldKey(key) => shown_key(alloc, key)?,
+        ParseEventKind::Scalar(ScalarValue::Str(text)) => {
+            let text = shown_text(alloc, text)?;
+            format!(in alloc; "Str {text}")?
+        }
+        ParseEventKind::Scalar(ScalarValue::Bytes(bytes)) => {
+            let bytes = bytes.as_slice();
+            format!(in alloc; "Bytes {bytes:?}")?
+        }
+        kind => format!(in alloc; "{kind:?}")?,
+    };
+    let span = event.span;
+    let meta = shown_meta(alloc, event.meta.as_ref())?;
+    format!(in alloc; "{kind} {span}{meta}")
+}
 
 fn text_of(
     alloc: Global,
     answer: Result<Option<ParseEvent<'_>>, ParseError>,
 ) -> Result<String, AllocError> {
     match answer {
-        Ok(Some(event)) => format!(in alloc; "{event:?}"),
+        Ok(Some(event)) => shown(alloc, &event),
         Ok(None) => format!(in alloc; "end"),
         Err(error) => format!(in alloc; "{error}"),
     }
@@ -39,12 +109,13 @@ fn reads_point(rt: HostRuntime) -> Result<(), Fail> {
     let input = b"{\nk \"x\"\nu 1\nk \"y\"\nu 18446744073709551615\n}\n";
     let mut parser = TapeParser::new(alloc, input);
     for want in [
-        "StructStart(Object)@[0..1)",
-        "FieldKey(Name(Borrowed(\"x\")))@[2..7)",
-        "Scalar(U64(1))@[8..11)",
-        "FieldKey(Name(Borrowed(\"y\")))@[12..17)",
-        "Scalar(U64(18446744073709551615))@[18..40)",
-        "StructEnd@[41..42)",
+        "StructStart(Object) [0..1)",
+        "Name \"x\" [2..7)",
+        "Scalar(U64(1)) [8..11)",
+        "Name \"y\" [12..17)",
+        "Scalar(U64(18446744073709551615)) [18..40)",
+        "StructEnd [41..42)",
+        "end",
         "end",
     ] {
         gives(&rt, alloc, &mut parser, want)?;
@@ -55,108 +126,21 @@ fn reads_point(rt: HostRuntime) -> Result<(), Fail> {
 }
 
 #[test]
-fn stays_at_a_bad_line(rt: HostRuntime) -> Result<(), Fail> {
-    let alloc = rt.alloc();
-    let rows: [(&[u8], &str); 9] = [
-        (
-            b"u 3",
-            "unexpected end of input, expected line end at [0..3)",
-        ),
-        (b"k\xff\n", "invalid UTF-8 near: [107, 255] at [0..2)"),
-        (
-            b"\n",
-            "unexpected character '\\n', expected tape line at [0..0)",
-        ),
-        (
-            b"null\n",
-            "unexpected character 'n', expected tape line at [0..4)",
-        ),
-        (
-            b"u 05\n",
-            "unexpected character 'u', expected tape line at [0..4)",
-        ),
-        (
-            b"u 18446744073709551616\n",
-            "unexpected character 'u', expected tape line at [0..22)",
-        ),
-        (
-            b"k \"a\\n\"\n",
-            "unexpected character 'k', expected tape line at [0..7)",
-        ),
-        (
-            b"k \"a\" tag \"t\"\n",
-            "unexpected character 'k', expected tape line at [0..13)",
-        ),
-        (
-            b"\xe2\x82\xac\n",
-            "unexpected character '\u{20ac}', expected tape line at [0..3)",
-        ),
-    ];
-    for (input, want) in rows {
-        let mut parser = TapeParser::new(alloc, input);
-        gives(&rt, alloc, &mut parser, want)?;
-        gives(&rt, alloc, &mut parser, want)?;
-    }
-    Ok(())
-}
-
-#[test]
 fn fills_a_buffer(rt: HostRuntime) {
-    let mut parser = TapeParser::new(rt.alloc(), b"{\nu 1\n}\nnull\n");
+    let mut parser = TapeParser::new(rt.alloc(), b"{\ns \"a\\\\b\" doc \"d\"\n}\nnul\n]\n");
     let mut buf = VecDeque::new(rt.alloc());
     assert!(rt; matches!(parser.next_events(&mut buf, 2), Ok(2)));
     assert!(rt; parser.next_events(&mut buf, 9).is_err());
     assert_eq!(rt; buf.len(), 3);
+    assert!(rt; parser.next_events(&mut buf, 9).is_err());
+    assert_eq!(rt; buf.len(), 3);
 }
-
-fn write_scalars(tape: &mut TapeWriter) -> Result<(), WriteStop<NoFault>> {
-    tape.scalar(ScalarValue::Unit)?;
-    tape.scalar(ScalarValue::Null)?;
-    tape.scalar(ScalarValue::Bool(true))?;
-    tape.scalar(ScalarValue::Bool(false))?;
-    tape.scalar(ScalarValue::Char('\u{20ac}'))?;
-    tape.scalar(ScalarValue::I64(-9_223_372_036_854_775_808))?;
-    tape.scalar(ScalarValue::U64(18_446_744_073_709_551_615))?;
-    tape.scalar(ScalarValue::I128(-1))?;
-    tape.scalar(ScalarValue::U128(340_282_366_920_938_463_463_374_607_431_768_211_455))?;
-    tape.scalar(ScalarValue::Str(Text::Borrowed("a\nb")))?;
-    tape.scalar(ScalarValue::Bytes(Bytes::Borrowed(b"\x00\xa9\xff")))?;
-    tape.scalar(ScalarValue::Bytes(Bytes::Borrowed(b"")))
-}
-
-fn write_lines(tape: &mut TapeWriter) -> Result<(), WriteStop<NoFault>> {
-    tape.begin_struct()?;
-    tape.field_key("x")?;
-    tape.field_key("\"\\\n")?;
-    tape.begin_seq()?;
-    write_scalars(tape)?;
-    tape.end_seq()?;
-    tape.end_struct()
-}
-
-const LINES: &[u8] = b"{
-k \"x\"
-k \"\\\"\\\\\\n\"
-[
-unit
-null
-true
-false
-c \"\xe2\x82\xac\"
-i -9223372036854775808
-u 18446744073709551615
-I -1
-U 340282366920938463463374607431768211455
-s \"a\\nb\"
-b 00a9ff
-b 
-]
-}
-";
 
 #[test]
-fn writes_each_line(rt: HostRuntime) {
-    let mut tape = TapeWriter::new(rt.alloc());
-    assert!(rt; write_lines(&mut tape).is_ok());
-    assert_eq!(rt; tape.into_bytes().as_slice(), LINES);
+fn fewer_events_come_only_at_the_end(rt: HostRuntime) {
+    let mut parser = TapeParser::new(rt.alloc(), b"[\nnull\n]\n");
+    let mut buf = VecDeque::new(rt.alloc());
+    assert!(rt; matches!(parser.next_events(&mut buf, 9), Ok(3)));
+    assert!(rt; matches!(parser.next_events(&mut buf, 9), Ok(0)));
+    assert_eq!(rt; buf.len(), 3);
 }

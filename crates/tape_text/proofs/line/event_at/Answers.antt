@@ -4,7 +4,7 @@ use Rattle.std.proofs.lemmas.Bool.Decides.{nat_tests}
 use Rattle.semantics.specs.Faults.{stops}
 use Rattle.tape_text.specs.Coming.{only, on_line}
 use Rattle.tape_text.specs.Parser.{coming_at}
-use Rattle.tape_text.proofs.Stands.{line_stands, rest_stands, rest_some, rest_none}
+use Rattle.tape_text.proofs.Stands.{line_stands, stop_stands, rest_stands, rest_some, rest_none}
 use Rattle.tape_text.proofs.line.event_at.Goals as goal
 
 pub returns-then-is_empty : goal.returns-then-is_empty
@@ -39,5 +39,5 @@ returns-in-Err c =
     let input = c.args.input.now in
     let rest = take (length input - c.args.at) (drop c.args.at input) in
     let line = c.in-Some.ensures in
-    line_stands input c.args.at c.in-Some.len rest (take_rest input c.args.at) line.0 line.1 line.2
-    ∙ ap (λ j. on_line j (coming_at input (c.args.at + c.in-Some.len + 1))) c.in-Err.ensures
+    stop_stands input c.args.at (take c.in-Some.len rest) (c.args.at + c.in-Some.len + 1) c.in-Err.stop
+    (line_stands input c.args.at c.in-Some.len rest (take_rest input c.args.at) line.0 line.1 line.2) c.in-Err.ensures

@@ -1,10 +1,10 @@
-use Rattle.std.proofs.Common.{◌≡◌, Some, None, sym, ap, ◌∙◌, refl, take}
+use Rattle.std.proofs.Common.{◌≡◌, Some, None, sym, ap, ◌∙◌, take}
 use Rattle.std.specs.Str.{is_utf8, chars}
 use Rattle.std.proofs.lemmas.Str.{IsUtf8-from_is_utf8, is_utf8-from_IsUtf8}
 use Rattle.semantics.specs.Faults.{unexpected_char, invalid_utf8}
 use Rattle.semantics.specs.Tapes.{at_line, first_or_end, line_span}
 use Rattle.event_core.specs.Events.{event_of as view_of}
-use Rattle.tape_text.specs.Bodies.{event_of}
+use Rattle.tape_text.specs.Reading.{event_of}
 use Rattle.tape_text.specs.Coming.{bad}
 use Rattle.tape_text.proofs.TapeLaws.{text_judged, bytes_judged, not_true}
 use Rattle.tape_text.proofs.Stands.{fault_there}
@@ -16,17 +16,18 @@ returns-in_default c =
     bytes_judged c.args.at line (not_true (is_utf8 line) (λ h. c.in_default.ensures.cases.0 (IsUtf8-from_is_utf8 line h)))
     ∙ ap bad (sym (fault_there c.args.at line c.new.result c.not_utf8.result (invalid_utf8 (take 16 line)) c.new.ensures c.not_utf8.ensures))
 
-pub returns-in-Some : goal.returns-in-Some
-returns-in-Some c =
+pub returns-in-Ok-Some : goal.returns-in-Ok-Some
+returns-in-Ok-Some c =
     let line = c.args.line.now in
-    let read : event_of (line_span c.args.at line) line ≡ Some (view_of c.in-Some.event) = ap (event_of (line_span c.args.at line)) (sym c.in-Ok.ensures.cases.0) ∙ sym c.in-Some.ensures in
-    text_judged c.args.at line (Some (view_of c.in-Some.event)) (is_utf8-from_IsUtf8 line c.in-Ok.ensures.cases.1) read
+    let found : event_of (line_span c.args.at line) c.in-Ok.text.now ≡ Some (view_of c.in-Ok-Some.event) = sym (rw c.in-Ok-Some.field-0-is at c.in-Ok-Some.ensures) in
+    let read : event_of (line_span c.args.at line) line ≡ Some (view_of c.in-Ok-Some.event) = ap (event_of (line_span c.args.at line)) (sym c.in-Ok.ensures.cases.0) ∙ found in
+    text_judged c.args.at line (Some (view_of c.in-Ok-Some.event)) (is_utf8-from_IsUtf8 line c.in-Ok.ensures.cases.1) read
 
-pub returns-in-None : goal.returns-in-None
-returns-in-None c =
+pub returns-in-Ok-None : goal.returns-in-Ok-None
+returns-in-Ok-None c =
     let line = c.args.line.now in
-    let read : event_of (line_span c.args.at line) line ≡ None = ap (event_of (line_span c.args.at line)) (sym c.in-Ok.ensures.cases.0) ∙ sym c.in-None.ensures in
-    let first : first_or_end (chars line) ≡ c.first_char.result = ap (λ x. first_or_end (chars x)) (sym c.in-Ok.ensures.cases.0) ∙ sym c.first_char.ensures in
+    let found : event_of (line_span c.args.at line) c.in-Ok.text.now ≡ None = sym (rw c.in-Ok-None.field-0-is at c.in-Ok-None.ensures) in
+    let read : event_of (line_span c.args.at line) line ≡ None = ap (event_of (line_span c.args.at line)) (sym c.in-Ok.ensures.cases.0) ∙ found in
     text_judged c.args.at line None (is_utf8-from_IsUtf8 line c.in-Ok.ensures.cases.1) read
-    ∙ ap (λ x. bad (at_line (unexpected_char x) c.args.at line)) first
-    ∙ ap bad (sym (fault_there c.args.at line c.new-in-None.result _ (unexpected_char c.first_char.result) c.new-in-None.ensures refl))
+    ∙ ap (λ x. bad (at_line (unexpected_char (first_or_end (chars x))) c.args.at line)) (sym c.in-Ok.ensures.cases.0)
+    ∙ ap bad (sym c.no_line.ensures)

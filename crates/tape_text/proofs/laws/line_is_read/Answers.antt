@@ -1,5 +1,0 @@
-use Rattle.tape_text.proofs.LineLaws.{line_is_read}
-use Rattle.tape_text.proofs.laws.line_is_read.Goals as goal
-
-pub returns : goal.returns
-returns c = line_is_read

@@ -1,5 +1,0 @@
-use Rattle.tape_text.proofs.LineLaws.{one_event}
-use Rattle.tape_text.proofs.laws.one_line_one_event.Goals as goal
-
-pub returns : goal.returns
-returns c = one_event

@@ -1,0 +1,82 @@
+//! Reading what stands behind the body of a line: a tag, and then lines of documentation.
+ghost use Rattle.std.specs.Prelude.{◌≡◌, IfOk, length, map};
+ghost use Rattle.std.specs.Option.{option_map};
+ghost use Rattle.shape_core.specs.Texts.{phrase_of};
+ghost use Rattle.event_core.specs.Metadata.{metadata_of};
+ghost use Rattle.tape_text.specs.Suffixes.{tag_at, doc_at, docs_at, metadata_at};
+
+use crate::front::after;
+use crate::quoted::text_at;
+use event_core::{Docs, ValueMeta};
+use shape_core::{Items, OutOfMemory, Text};
+use std::alloc::Global;
+
+/// A tag, where one stands there, and what stands behind it.
+#[tactic(auto, unfolding(crate::specs::Suffixes::tag_at))]
+fn tag_at<'de>(
+    alloc: Global,
+    text: &'de str,
+) -> Result<Option<(Option<Text<'de>>, &'de str)>, OutOfMemory>
+    ensures { IfOk result (λ found. option_map (λ p. (option_map phrase_of p.0, p.1.now)) found ≡ tag_at text.now) }
+{
+    let Some(rest) = after(text, " tag ") else {
+        return Ok(Some((None, text)));
+    };
+    match text_at(alloc, rest) {
+        Ok(Some((tag, rest))) => Ok(Some((Some(tag), rest))),
+        Ok(None) => Ok(None),
+        Err(refused) => Err(refused),
+    }
+}
+
+/// A line of documentation, and what stands behind it.
+#[tactic(auto, unfolding(crate::specs::Suffixes::doc_at))]
+fn doc_at<'de>(alloc: Global, text: &'de str) -> Result<Option<(Text<'de>, &'de str)>, OutOfMemory>
+    ensures { IfOk result (λ found. option_map (λ p. (phrase_of p.0, p.1.now)) found ≡ doc_at text.now) }
+{
+    match after(text, " doc ") {
+        Some(rest) => text_at(alloc, rest),
+        None => Ok(None),
+    }
+}
+
+/// The lines of documentation that the text is.
+fn docs_at<'de>(alloc: Global, text: &'de str) -> Result<Option<Docs<'de>>, OutOfMemory>
+    ensures { IfOk result (λ found. option_map (λ docs. map phrase_of docs) found ≡ docs_at (length text.now) text.now) }
+{
+    let mut docs = Items::new(alloc);
+    let mut rest = text;
+    'docs: while !rest.is_empty() {
+        match doc_at(alloc, rest) {
+            Ok(Some((doc, behind))) => {
+                docs.push(doc)?;
+                rest = behind;
+            }
+            Ok(None) => return Ok(None),
+            Err(refused) => return Err(refused),
+        }
+    }
+    Ok(Some(docs))
+}
+
+/// What the text tells beside an event: nothing where it is empty.
+#[tactic(auto, unfolding(crate::specs::Suffixes::metadata_at))]
+pub fn metadata_at<'de>(
+    alloc: Global,
+    text: &'de str,
+) -> Result<Option<ValueMeta<'de>>, OutOfMemory>
+    ensures { IfOk result (λ found. option_map metadata_of found ≡ metadata_at text.now) }
+{
+    match tag_at(alloc, text) {
+        Ok(Some((tag, rest))) => match docs_at(alloc, rest) {
+            Ok(Some(docs)) => {
+                let meta = ValueMeta::builder().maybe_tag(tag).doc(docs).build();
+                Ok(Some(meta))
+            }
+            Ok(None) => Ok(None),
+            Err(refused) => Err(refused),
+        },
+        Ok(None) => Ok(None),
+        Err(refused) => Err(refused),
+    }
+}
