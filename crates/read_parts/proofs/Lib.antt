@@ -1,0 +1,4 @@
+pub mod Numerals
+pub mod Characters
+pub mod Ranges
+mod Rows

@@ -1,0 +1,61 @@
+-- The table of setters at work: rows whose answers are known.
+use Rattle.std.proofs.Common.{◌≡◌, ℤ, negsuc, true, false, Ok, Err, refl, [], Some, None}
+use Rattle.std.specs.Prelude.{codes}
+use Rattle.std.specs.Fmt.{digits}
+use Rattle.semantics.specs.Trees.{unsigned, signed, bool_value, text}
+use Rattle.semantics.specs.Shapes.{bits8, bits64, bits128, unsigned_type, signed_type, bool_type, string_type, str_type}
+use Rattle.semantics.specs.Events.{u64, i64, bool, null, str}
+use Rattle.semantics.specs.Faults.{number_out_of_range, cannot_borrow, reflect, parse_failed, wrong_kind}
+use Rattle.semantics.specs.Numerals.{unsigned_text, signed_text}
+use Rattle.semantics.specs.Setters.{set_scalar}
+
+too_great : set_scalar true 3 (unsigned_type bits8) (u64 300) ≡ Err (number_out_of_range (codes "300"))
+unfolding digits
+too_great = refl
+
+negative : set_scalar true 3 (unsigned_type bits8) (i64 (negsuc 0)) ≡ Err (number_out_of_range (codes "-1"))
+unfolding digits
+negative = refl
+
+signed_one : set_scalar true 9 (signed_type bits8) (i64 (negsuc 0)) ≡ Ok (signed (negsuc 0))
+signed_one = refl
+
+nothing : set_scalar true 3 (unsigned_type bits8) null ≡ Ok (unsigned 0)
+nothing = refl
+
+other_kind : set_scalar true 3 (unsigned_type bits8) (bool true) ≡ Err (reflect (wrong_kind 3))
+other_kind = refl
+
+lent_text : set_scalar true 16 str_type (str (record { bytes = codes "ab"; borrowed = true })) ≡ Ok (text (record { bytes = codes "ab"; borrowed = true }))
+lent_text = refl
+
+own_text : set_scalar true 16 str_type (str (record { bytes = codes "ab"; borrowed = false })) ≡ Err cannot_borrow
+own_text = refl
+
+decimal_text : set_scalar true 15 string_type (i64 (negsuc 4)) ≡ Ok (text (record { bytes = codes "-5"; borrowed = false }))
+unfolding digits
+decimal_text = refl
+
+truth : set_scalar true 1 bool_type (str (record { bytes = codes "true"; borrowed = true })) ≡ Ok (bool_value true)
+truth = refl
+
+plus : unsigned_text bits64 (codes "+05") ≡ Some 5
+plus = refl
+
+no_minus : unsigned_text bits64 (codes "-0") ≡ None
+no_minus = refl
+
+no_digit : unsigned_text bits64 (codes "+") ≡ None
+no_digit = refl
+
+greatest : unsigned_text bits128 (codes "340282366920938463463374607431768211455") ≡ Some 340282366920938463463374607431768211455
+greatest = refl
+
+past_greatest : unsigned_text bits128 (codes "340282366920938463463374607431768211456") ≡ None
+past_greatest = refl
+
+least : signed_text bits8 (codes "-128") ≡ Some (negsuc 127)
+least = refl
+
+below_least : signed_text bits8 (codes "-129") ≡ None
+below_least = refl
