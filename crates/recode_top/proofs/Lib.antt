@@ -6,10 +6,11 @@ pub mod Commands
 pub mod Tapes
 pub mod RecodeLaws
 pub mod LineFronts
-pub mod LineLaws
+pub mod Decimals
+pub mod TextSteps
+pub mod QuoteRests
 pub mod FirstLines
 pub mod Names
-pub mod FieldSteps
 pub mod LineSteps
 pub mod Defining
 pub mod ShapeTexts

@@ -3,16 +3,8 @@ use Rattle.std.proofs.Common.{ℕ, zero, suc, ◌<◌, ◌≡◌, ◌≢◌, Lis
 use Rattle.std.proofs.lemmas.Bool.Decides.{nat_tests}
 use Rattle.std.specs.Option.{option_copied}
 use Rattle.std.specs.Str.Pattern.{FindsTextPrefix, StripsPrefix}
-use Rattle.recode_top.specs.LineReading.{strip, until_space, Piece}
-
-pub strip-again : (p rest : List ℕ) → strip p (p ++ rest) ≡ Some rest
-strip-again [] rest = refl
-strip-again (b ∷ p) rest = grind (arith, nat_tests, strip-again p rest)
-
-pub strip-takes : (p l rest : List ℕ) → strip p l ≡ Some rest → l ≡ p ++ rest
-strip-takes [] l rest h = cc
-strip-takes (b ∷ p) [] rest h = cc
-strip-takes (b ∷ p) (c ∷ l) rest h = grind (arith, nat_tests, strip-takes p l rest)
+use Rattle.laws.specs.ShapeLineReading.{strip, until_space}
+use Rattle.laws.proofs.ShapeLineParts.{strip-again, strip-takes}
 
 strip-some : (p l rest : List ℕ) → l ≡ p ++ rest → strip p l ≡ Some rest
 strip-some p l rest h = rw h (strip-again p rest)
@@ -25,22 +17,22 @@ pub after_is : (p l : List ℕ) (r : Option (Bor (List ℕ))) → MatchOption r 
 after_is p l None h = sym (none_from p l (strip p l) refl h)
 after_is p l (Some x) h = sym (strip-some p l x.now (h.1.1 ∙ ap (λ rest. p ++ rest) (sym h.2)))
 
-pub until-other : (b : ℕ) (bs : List ℕ) → b ≢ 32 → until_space (b ∷ bs) ≡ record { text = b ∷ (until_space bs).text; rest = (until_space bs).rest }
+until-other : (b : ℕ) (bs : List ℕ) → b ≢ 32 → until_space (b ∷ bs) ≡ (b ∷ (until_space bs).0, (until_space bs).1)
 unfolding until_space
 until-other b bs h = grind (arith, nat_tests)
 
-pub until-here : (b : ℕ) (bs : List ℕ) → b ≡ 32 → until_space (b ∷ bs) ≡ record { text = []; rest = b ∷ bs }
+until-here : (b : ℕ) (bs : List ℕ) → b ≡ 32 → until_space (b ∷ bs) ≡ ([], b ∷ bs)
 unfolding until_space
 until-here b bs h = grind (arith, nat_tests)
 
-pub until-at : (bs : List ℕ) (k : ℕ) → k < length bs → get_or bs k 0 ≡ 32 → ((i : ℕ) → i < k → get_or bs i 0 ≢ 32) → until_space bs ≡ record { text = take k bs; rest = drop k bs }
+pub until-at : (bs : List ℕ) (k : ℕ) → k < length bs → get_or bs k 0 ≡ 32 → ((i : ℕ) → i < k → get_or bs i 0 ≢ 32) → until_space bs ≡ (take k bs, drop k bs)
 until-at [] k l h p = absurd (omega arith)
 until-at (b ∷ bs) zero l h p = until-here b bs h
 until-at (b ∷ bs) (suc k) l h p =
     let read = until-at bs k (omega arith) h (λ i q. p (suc i) (omega arith)) in
-    until-other b bs (p 0 (omega arith)) ∙ ap (λ (q : Piece). record { text = b ∷ q.text; rest = q.rest }) read
+    until-other b bs (p 0 (omega arith)) ∙ ap (λ (q : List ℕ × List ℕ). (b ∷ q.0, q.1)) read
 
-pub until-end : (bs : List ℕ) → ((i : ℕ) → i < length bs → get_or bs i 0 ≢ 32) → until_space bs ≡ record { text = bs; rest = [] }
+pub until-end : (bs : List ℕ) → ((i : ℕ) → i < length bs → get_or bs i 0 ≢ 32) → until_space bs ≡ (bs, [])
 unfolding until_space
 until-end [] p = refl
-until-end (b ∷ bs) p = until-other b bs (p 0 (omega arith)) ∙ ap (λ (q : Piece). record { text = b ∷ q.text; rest = q.rest }) (until-end bs (λ i q. p (suc i) (omega arith)))
+until-end (b ∷ bs) p = until-other b bs (p 0 (omega arith)) ∙ ap (λ (q : List ℕ × List ℕ). (b ∷ q.0, q.1)) (until-end bs (λ i q. p (suc i) (omega arith)))

@@ -7,22 +7,23 @@ use borrow.Author.Count.{below_none, below_more}
 use Rattle.semantics.specs.Shapes.{Draft}
 use Rattle.semantics.specs.Scalars.{scalar_drafts}
 use Rattle.semantics.specs.Registry.{ShapeFault, ShapeFaultKind, fault_of, fault_at, NoFaultBelow, NoFault, IsFirstFault}
+use Rattle.semantics.specs.ShapeLines.{ShapeLine, head_line, item_line, field_line, variant_line}
 use Rattle.semantics.specs.ShapeText as mirror
-use Rattle.semantics.specs.ShapeText.{ShapeLine, struct_line, field_line, struct_names, shape_count, shape_text, AreLines, is_known, plain_struct, next_fields, structs_of, all_names, shapes_of, IsShapeText, IsShapeTextFault, at_line, at_reference, at_struct}
+use Rattle.semantics.specs.ShapeText.{shape_names, shape_count, shape_text, AreLines, is_known, Scope, scope_of, drafts_said, all_names, shapes_of, IsShapeText, IsShapeTextFault, at_line, at_reference, at_head}
 use Rattle.recode_top.specs.declared.shape_fault.ReadShapesError.{ReadShapesError}
 use Rattle.recode_top.specs.declared.shape_fault.ReadShapesError.TheVariants as error
 use Rattle.recode_top.specs.ShapeErrors.{IsReadShapesError}
-use Rattle.recode_top.specs.ShapeLines.{IsReferenceFault}
-use Rattle.recode_top.specs.ShapeReading.{AreLinesOf, IsLineFault, IsStructAt}
+use Rattle.recode_top.specs.ShapeReading.{AreLinesOf, IsLineFault, IsHeadAt}
+use Rattle.recode_top.specs.ShapeScopes.{IsReferenceFault}
 use Rattle.recode_top.proofs.LineSteps.{scalar_count}
 
 pub line_error : (text : List ℕ) (e : ReadShapesError) → IsLineFault text e → IsReadShapesError text e
 line_error text (error.Fault fault) f = at_line f.before f.left f.whole f.good f.here.refused f.here.at
 line_error text error.Alloc f = tt
 
-pub reference_error : (text : List ℕ) (ls : List ShapeLine) (e : ReadShapesError) → AreLinesOf text ls → IsReferenceFault (all_names ls) 0 ls e → IsReadShapesError text e
+pub reference_error : (text : List ℕ) (ls : List ShapeLine) (e : ReadShapesError) → AreLinesOf text ls → IsReferenceFault (all_names ls) ls e → IsReadShapesError text e
 reference_error text ls (error.Fault fault) are f =
-    at_reference f.before f.after f.here (all_names ls) (are.whole ∙ ap shape_text f.are) (subst (λ (x : List ShapeLine). AreLines x) f.are are.good) (ap all_names f.are) f.known f.unknown (omega (arith, f.at)) f.kind
+    at_reference f.before f.after f.here (all_names ls) (are.whole ∙ ap shape_text f.are) (subst (λ (x : List ShapeLine). AreLines x) f.are are.good) (ap all_names f.are) f.known f.unknown f.at f.kind
 reference_error text ls error.Alloc are f = tt
 
 -- the scalars keep every rule, whatever stands behind them
@@ -40,29 +41,31 @@ fault_there : (ds : List Draft) (i : ℕ) (o : Option Draft) (kind : ShapeFaultK
 fault_there ds i None kind e h = absurd (some_is_none kind h)
 fault_there ds i (Some d) kind e h = slice_get_within ds i d e
 
-structs_count : (names : List (List ℕ)) (ls : List ShapeLine) → length (structs_of names ls) ≡ length (struct_names ls)
-structs_count names [] = refl
-structs_count names (struct_line name ∷ ls) = ap (λ n. suc n) (structs_count names ls)
-structs_count names (field_line name shape ∷ ls) = structs_count names ls
+drafts_count : (scope : Scope) (ls : List ShapeLine) → length (drafts_said scope ls) ≡ length (shape_names ls)
+drafts_count scope [] = refl
+drafts_count scope (head_line name head ∷ ls) = ap (λ n. suc n) (drafts_count scope ls)
+drafts_count scope (item_line shape ∷ ls) = drafts_count scope ls
+drafts_count scope (field_line f ∷ ls) = drafts_count scope ls
+drafts_count scope (variant_line v ∷ ls) = drafts_count scope ls
 
 shapes_count : (ls : List ShapeLine) → length (shapes_of ls) ≡ shape_count ls
-shapes_count ls = omega (arith, length-append scalar_drafts (structs_of (all_names ls) ls), scalar_count, structs_count (all_names ls) ls)
+shapes_count ls = omega (arith, length-append scalar_drafts (drafts_said (scope_of ls) ls), scalar_count, drafts_count (scope_of ls) ls)
 
--- only a struct of the text can break a rule
-pub fault_is_struct : (ls : List ShapeLine) (f : ShapeFault) → IsFirstFault (shapes_of ls) f → (17 ≤ f.shape) × (f.shape < shape_count ls)
-fault_is_struct ls f h =
+-- only a shape of the text can break a rule
+pub fault_is_shape : (ls : List ShapeLine) (f : ShapeFault) → IsFirstFault (shapes_of ls) f → (17 ≤ f.shape) × (f.shape < shape_count ls)
+fault_is_shape ls f h =
     let there = fault_there (shapes_of ls) f.shape (slice_get (shapes_of ls) f.shape) f.kind refl h.here in
-    (above f.shape (λ lt. some_is_none f.kind (sym (scalars_sound (structs_of (all_names ls) ls) f.shape lt) ∙ h.here)), omega (arith, there, shapes_count ls))
+    (above f.shape (λ lt. some_is_none f.kind (sym (scalars_sound (drafts_said (scope_of ls) ls) f.shape lt) ∙ h.here)), omega (arith, there, shapes_count ls))
   where
     above : (i : ℕ) → (i < 17 → ⊥) → 17 ≤ i
     above i h = omega (arith, h)
 
 pub rule_error : (text : List ℕ) (ls : List ShapeLine) (f : ShapeFault) (line : ℕ) → AreLinesOf text ls → list_all (is_known (all_names ls)) ls ≡ true → IsFirstFault (shapes_of ls) f
-    → IsStructAt ls f.shape line → IsShapeTextFault text line (mirror.check f)
+    → IsHeadAt ls f.shape line → IsShapeTextFault text line (mirror.check f)
 rule_error text ls f line are known first at =
-    at_struct at.before at.after at.name f (are.whole ∙ ap shape_text at.are) (subst (λ (x : List ShapeLine). AreLines x) at.are are.good)
+    at_head at.before at.after at.here f (are.whole ∙ ap shape_text at.are) (subst (λ (x : List ShapeLine). AreLines x) at.are are.good)
     (subst (λ (x : List ShapeLine). IsTrue (list_all (is_known (all_names x)) x)) at.are known) (subst (λ (x : List ShapeLine). IsFirstFault (shapes_of x) f) at.are first)
-    at.count at.at refl
+    at.head at.count at.at refl
 
 pub described : (text : List ℕ) (ls : List ShapeLine) (drafts shapes : List Draft) → AreLinesOf text ls → list_all (is_known (all_names ls)) ls ≡ true → drafts ≡ shapes_of ls → NoFault drafts → shapes ≡ drafts
     → IsShapeText text shapes

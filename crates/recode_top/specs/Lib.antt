@@ -3,8 +3,9 @@ pub mod Wrote
 pub mod Outside
 pub mod Stopping
 pub mod Recode
-pub mod LineReading
 pub mod ShapeLines
+pub mod ShapePlaces
+pub mod ShapeScopes
 pub mod ShapeReading
 pub mod ShapeErrors
 pub mod ShapeNotes

@@ -15,3 +15,21 @@ pub fn recoded_root(words: &Words) -> Option<&str>
     }
     Some(root)
 }
+
+#[cfg(test)]
+mod tests {
+    use super::*;
+    use std::test::*;
+
+    #[test]
+    fn two_words_name_a_root(rt: HostRuntime) -> Result<(), Fail> {
+        let mut words = Words::new(rt.alloc());
+        words.push("recode")?;
+        assert_eq!(rt; recoded_root(&words), None);
+        words.push("Point")?;
+        assert_eq!(rt; recoded_root(&words), Some("Point"));
+        words.push("512")?;
+        assert_eq!(rt; recoded_root(&words), None);
+        Ok(())
+    }
+}

@@ -13,6 +13,9 @@ use crate::outside::{Failed, Sink, Source, Words, write_all};
 use crate::stop::Stop;
 use std::alloc::Global;
 
+#[cfg(test)]
+mod tests;
+
 /// Runs the program with these words: `recode ROOT`.
 ///
 /// It reads the source to its end, writes the canonical tape to the sink, and says on `notes` why it stops, if it

@@ -17,6 +17,9 @@ use shape_core::{ShapeId, Shapes, Value};
 use std::alloc::Global;
 use tape_text::{TapeBytes, tape_is_read};
 
+#[cfg(test)]
+mod tests;
+
 /// Reads the one value of a tape by its shape, its keys in any order, and writes its tape in canonical order.
 ///
 /// `depth` bounds how deep values nest. An `Ok` says that the whole input was read.

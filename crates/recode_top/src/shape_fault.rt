@@ -9,9 +9,9 @@ pub enum ShapeTextKind {
     NotUtf8,
     /// A line has none of the known forms, or no line feed.
     BadLine,
-    /// A field stands before the first struct.
+    /// An item, a field or a variant stands where none may stand.
     OutOfPlace,
-    /// A field has the name of a shape that isn't there.
+    /// A line refers to a shape that isn't there.
     UnknownRef,
     /// There are more than 65,535 shapes, with the scalars.
     TooMany,

@@ -1,113 +1,142 @@
-ghost use Rattle.std.specs.Prelude.{◌≡◌};
-ghost use Rattle.std.specs.Option.{option_copied, option_map};
-ghost use Rattle.std.specs.List.{list_all};
-ghost use Rattle.semantics.specs.ShapeText.{is_name_byte, is_name};
-ghost use Rattle.recode_top.specs.LineReading.{strip, until_space, name_at, struct_of, field_of, line_of};
-ghost use Rattle.recode_top.specs.ShapeLines.{piece, shape_line};
+use crate::shape_quoted::Quoted;
+use shape_core::{MetaKind, SkipRule, TagKind};
 
 /// What a line of a shape text says.
-#[derive(Debug, Clone, Copy)]
+#[derive(Clone, Copy)]
 pub(crate) enum ShapeLine<'a> {
-    /// A struct begins.
-    Struct {
+    /// A shape begins.
+    Head {
         /// Its name.
         name: &'a str,
+        /// What it is.
+        head: Head<'a>,
     },
-    /// The struct above has a field.
-    Field {
-        /// Its name.
-        name: &'a str,
+    /// The tuple above has an item.
+    Item {
         /// The name of its shape.
         shape: &'a str,
     },
+    /// The struct above has a field.
+    Field(FieldLine<'a>),
+    /// The enum above has a variant.
+    Variant(VariantLine<'a>),
 }
 
-/// What stands behind a front of the text, where the text begins with it.
-fn after<'a>(text: &'a str, front: &str) -> Option<&'a str>
-    ensures { option_copied result ≡ strip front.now text.now }
-{
-    text.strip_prefix(front)
+/// What a line says of the shape that begins there. Other shapes stand by their names.
+#[derive(Clone, Copy)]
+pub(crate) enum Head<'a> {
+    /// A value, or nothing.
+    Option(&'a str),
+    /// Items in order.
+    List(&'a str),
+    /// Distinct items.
+    Set(&'a str),
+    /// The values of another shape.
+    Transparent(&'a str),
+    /// One of two values.
+    Result(&'a str, &'a str),
+    /// Keys and values.
+    Map(&'a str, &'a str),
+    /// So many items.
+    Array(u32, &'a str),
+    /// A struct without fields.
+    Unit,
+    /// A struct with items.
+    Tuple,
+    /// A struct with fields.
+    Struct {
+        /// Whether an unknown key is refused.
+        deny: bool,
+        /// Whether it has a declared default.
+        default: bool,
+        /// Whether it is a container.
+        container: bool,
+    },
+    /// An enum.
+    Enum(FormLine<'a>),
 }
 
-/// What stands before the first space, and what stands from it on.
-fn word(text: &str) -> (&str, &str)
-    ensures word { result.0.now ≡ (until_space text.now).text }
-    ensures rest { result.1.now ≡ (until_space text.now).rest }
-{
-    match text.find(' ') {
-        Some(at) => text.split_at(at),
-        None => (text, ""),
-    }
+/// How the variants of an enum are told apart, as a line says it.
+#[derive(Clone, Copy)]
+pub(crate) enum FormLine<'a> {
+    /// By a key.
+    External,
+    /// By a tag beside the fields.
+    Internal(Quoted<'a>, TagKind),
+    /// By a tag beside the content, which has a key of its own.
+    Adjacent(Quoted<'a>, Quoted<'a>, TagKind),
+    /// By a number.
+    Numeric,
+    /// By the content.
+    Untagged,
+    /// Not at all: one is borrowed and one owned.
+    Cow,
 }
 
-/// An ASCII letter, a digit or `_`.
-fn is_name_byte(b: u8) -> bool
-    ensures { result ≡ is_name_byte b }
-{
-    b == b'_' || (b'0' <= b && b <= b'9') || (b'A' <= b && b <= b'Z') || (b'a' <= b && b <= b'z')
+/// The default of a field, as a line says it.
+#[derive(Clone, Copy)]
+pub(crate) enum Literal<'a> {
+    /// The unit value.
+    Unit,
+    /// A truth value.
+    Bool(bool),
+    /// A character.
+    Char(char),
+    /// A number without a sign.
+    Unsigned(u128),
+    /// A number with a sign.
+    Signed(i128),
+    /// A text.
+    Text(Quoted<'a>),
+    /// Nothing.
+    None,
+    /// No items, or no entries.
+    Empty,
+    /// The default of its shape.
+    Own,
 }
 
-/// ASCII letters, digits and `_` alone.
-fn has_name_bytes(text: &str) -> bool
-    ensures { result ≡ list_all is_name_byte text.now }
-{
-    text.bytes().all(|b| is_name_byte(b))
+/// A field, as a line says it.
+#[derive(Clone, Copy)]
+pub(crate) struct FieldLine<'a> {
+    /// Its name.
+    pub name: &'a str,
+    /// The name of its shape.
+    pub shape: &'a str,
+    /// The name that is written and read in place of its own.
+    pub rename: Option<Quoted<'a>>,
+    /// A further name that is read.
+    pub alias: Option<Quoted<'a>>,
+    /// The value that it has where it is absent.
+    pub default: Option<Literal<'a>>,
+    /// When it isn't written.
+    pub skip: SkipRule,
+    /// Whether its own fields or entries stand in the object of its struct.
+    pub flatten: bool,
+    /// What it holds, where it is a metadata field.
+    pub metadata: Option<MetaKind>,
 }
 
-/// One or more ASCII letters, digits or `_`.
-fn is_name(text: &str) -> bool
-    ensures { result ≡ is_name text.now }
-{
-    !text.is_empty() && has_name_bytes(text)
+/// What belongs behind a line.
+#[derive(Clone, Copy)]
+pub(crate) enum Body {
+    /// Nothing.
+    Nothing,
+    /// Items.
+    Items,
+    /// Fields.
+    Fields,
 }
 
-/// A name up to the end of the word, and what stands behind it.
-#[tactic(auto, unfolding(crate::specs::LineReading::name_at))]
-fn name_at(text: &str) -> Option<(&str, &str)>
-    ensures { option_map piece result ≡ name_at text.now }
-{
-    let (name, rest) = word(text);
-    if is_name(name) {
-        Some((name, rest))
-    } else {
-        None
-    }
-}
-
-/// The line `shape NAME struct`.
-#[tactic(auto, unfolding(crate::specs::LineReading::struct_of))]
-fn struct_of(line: &str) -> Option<ShapeLine<'_>>
-    ensures { option_map shape_line result ≡ struct_of line.now }
-{
-    let (name, rest) = name_at(after(line, "shape ")?)?;
-    if rest == " struct" {
-        Some(ShapeLine::Struct { name })
-    } else {
-        None
-    }
-}
-
-/// The line `field NAME SHAPE`.
-#[tactic(auto, unfolding(crate::specs::LineReading::field_of))]
-fn field_of(line: &str) -> Option<ShapeLine<'_>>
-    ensures { option_map shape_line result ≡ field_of line.now }
-{
-    let (name, rest) = name_at(after(line, "field ")?)?;
-    let (shape, rest) = name_at(after(rest, " ")?)?;
-    if rest == "" {
-        Some(ShapeLine::Field { name, shape })
-    } else {
-        None
-    }
-}
-
-/// What a line without its line feed says. None where it is no line of a shape text.
-#[tactic(auto, unfolding(crate::specs::LineReading::line_of))]
-pub(crate) fn line_of(line: &str) -> Option<ShapeLine<'_>>
-    ensures { option_map shape_line result ≡ line_of line.now }
-{
-    match struct_of(line) {
-        Some(found) => Some(found),
-        None => field_of(line),
-    }
+/// A variant, as a line says it.
+#[derive(Clone, Copy)]
+pub(crate) struct VariantLine<'a> {
+    /// Its name.
+    pub name: &'a str,
+    /// What belongs behind it.
+    pub body: Body,
+    /// The name that is written and read in place of its own.
+    pub rename: Option<Quoted<'a>>,
+    /// Its number.
+    pub discriminant: Option<i64>,
 }

@@ -1,13 +1,17 @@
 ghost use Rattle.std.specs.Prelude.{◌≡◌, ◌≢◌, ℕ, ◌+◌, ◌<◌, [], ◌∷◌, ◌++◌, length, map, get_or, MatchOption, IfOk, IfErr, OnOk, IsTrue};
 ghost use Rattle.semantics.specs.Scalars.{scalar_drafts};
-ghost use Rattle.semantics.specs.ShapeText.{AreLines, has_names, is_name, struct_line};
+ghost use Rattle.semantics.specs.ShapeLines.{is_line};
+ghost use Rattle.semantics.specs.ShapeText.{AreLines, first_place as first_mirror, place_after};
 ghost use Rattle.shape_core.specs.Shapes.{drafts_of};
 ghost use Rattle.recode_top.specs.ShapeErrors.{text_kind};
 ghost use Rattle.recode_top.specs.ShapeLines.{shape_line, StandsAt, IsRefused};
-ghost use Rattle.recode_top.specs.ShapeReading.{named_drafts, IsNamed, IsPlaceFault, IsLineFault, AreLinesOf};
+ghost use Rattle.recode_top.specs.ShapePlaces.{place_view};
+ghost use Rattle.recode_top.specs.ShapeReading.{named_drafts, IsNamed, IsFull, IsPlaceFault, IsLineFault, AreLinesOf};
 
 use crate::shape_fault::{ReadShapesError, ShapeTextKind, fault};
-use crate::shape_line::{ShapeLine, line_of};
+use crate::shape_line::ShapeLine;
+use crate::shape_place::{Place, first_place, may_stand, place_behind};
+use crate::shape_reading::line_of;
 use shape_core::{Items, NameFault, ShapesBuilder};
 use std::alloc::Global;
 use std::str;
@@ -46,16 +50,15 @@ fn next_number(lines: &[ShapeLine<'_>]) -> usize
     lines.len() + 1
 }
 
-/// Gives a number to the struct that begins behind these lines.
-fn name_struct(
+/// Gives a number to the shape that begins behind these lines.
+fn name_shape(
     lines: &[ShapeLine<'_>],
     name: &str,
     builder: &mut ShapesBuilder,
 ) -> Result<(), ReadShapesError>
-    requires names { IsTrue (is_name name.now) }
-    requires named { drafts_of builder.old ≡ named_drafts (map shape_line lines.now) }
+    requires { drafts_of builder.old ≡ named_drafts (map shape_line lines.now) }
     ensures named { OnOk result (IsNamed (map shape_line lines.now) name.now (drafts_of builder.new)) }
-    ensures refused { IfErr result (λ error. IsPlaceFault (map shape_line lines.now) (struct_line name.now) error) }
+    ensures refused { IfErr result (λ error. IsFull (map shape_line lines.now) error) }
 {
     match builder.name(name) {
         Ok(_) => Ok(()),
@@ -64,32 +67,31 @@ fn name_struct(
     }
 }
 
-/// Sees that the line can stand behind these, and gives a number to its struct.
+/// Sees that the line may stand at its place, and gives a number to the shape that begins there.
 fn place_line(
     lines: &[ShapeLine<'_>],
+    place: Place,
     line: &ShapeLine<'_>,
     builder: &mut ShapesBuilder,
 ) -> Result<(), ReadShapesError>
     requires good { AreLines (map shape_line lines.now) }
-    requires names { IsTrue (has_names (shape_line line.now)) }
+    requires place { place_view place ≡ place_after first_mirror (map shape_line lines.now) }
+    requires line { IsTrue (is_line (shape_line line.now)) }
     requires named { drafts_of builder.old ≡ named_drafts (map shape_line lines.now) }
     ensures good { OnOk result (AreLines (map shape_line lines.now ++ shape_line line.now ∷ [])) }
     ensures named { OnOk result (drafts_of builder.new ≡ named_drafts (map shape_line lines.now ++ shape_line line.now ∷ [])) }
     ensures refused { IfErr result (λ error. IsPlaceFault (map shape_line lines.now) (shape_line line.now) error) }
 {
+    if !may_stand(place, line) {
+        return Err(fault(next_number(lines), ShapeTextKind::OutOfPlace));
+    }
     match line {
-        ShapeLine::Struct { name } => name_struct(lines, name, builder),
-        ShapeLine::Field { .. } => {
-            if lines.is_empty() {
-                Err(fault(1, ShapeTextKind::OutOfPlace))
-            } else {
-                Ok(())
-            }
-        }
+        ShapeLine::Head { name, .. } => name_shape(lines, name, builder),
+        _ => Ok(()),
     }
 }
 
-/// The lines of a text. The builder, which holds the scalars alone, gives a number to each struct.
+/// The lines of a text. The builder, which holds the scalars alone, gives a number to each shape.
 pub(crate) fn read_lines<'a>(
     alloc: Global,
     text: &'a [u8],
@@ -101,13 +103,15 @@ pub(crate) fn read_lines<'a>(
     ensures refused { IfErr result (λ error. IsLineFault text.now error) }
 {
     let mut lines = Items::new(alloc);
+    let mut place = first_place();
     let mut left = text;
     'lines: while !left.is_empty() {
         let (line, rest) = match first_line(left) {
             Ok(found) => found,
             Err(kind) => return Err(fault(next_number(lines.as_slice()), kind)),
         };
-        place_line(lines.as_slice(), &line, builder)?;
+        place_line(lines.as_slice(), place, &line, builder)?;
+        place = place_behind(place, &line);
         lines.push(line)?;
         left = rest;
     }

@@ -7,3 +7,6 @@ mod values;
 
 pub(crate) use tape::write_tape;
 pub(crate) use values::serialize_root;
+
+#[cfg(test)]
+mod tests;

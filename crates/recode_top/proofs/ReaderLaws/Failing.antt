@@ -495,12 +495,22 @@ module _ (terms : Terms) (n s : ℕ) (source : Source) (checked : IsRegistry ter
       → (run : Run) → read terms.setting (suc n) s source run ≡ None
   reads_none o is none run = ap (read_shape terms.setting (read terms.setting n) source run) is ∙ none run
 
+  -- a struct, if it has named fields
+  abbrev by_name : StructShape → Bool → List Step → Input → Result (Tree × Input) Fault
+  by_name d b path input = cond b (struct_at terms.setting.registry (reading terms n) [] d.deny (plain_layout d) s path input) (refused_at path input)
+
   definition_fails : (d : Definition) → definition_at terms.setting.registry s ≡ Some d → Fails terms (suc n) s source (value_as terms (reading terms n) s source d)
   definition_fails (scalar_shape t) is = scalar_fails terms n s source t is
-  definition_fails (struct_shape d) is =
-      let fine = struct_built d (built terms.setting.registry checked s (struct_shape d) is) in
-      λ path es ending last f told. struct_fails terms n s source d is fine.named fine.fields parts path es ending last f
-      (ap (λ b. cond b (struct_at terms.setting.registry (reading terms n) [] d.deny (plain_layout d) s path (feed es ending last)) (refused_at path (feed es ending last))) (sym fine.named) ∙ told)
+  definition_fails (struct_shape d) is = by_kind (is_named d.kind) refl
+    where
+      by_kind : (b : Bool) → is_named d.kind ≡ b → Fails terms (suc n) s source (by_name d (is_named d.kind))
+      by_kind true named =
+          let fine = struct_built d (built terms.setting.registry checked s (struct_shape d) is) in
+          λ path es ending last f told. struct_fails terms n s source d is named fine.fields parts path es ending last f (ap (λ b. by_name d b path (feed es ending last)) (sym named) ∙ told)
+      by_kind false named = λ path es ending last f told.
+          refused_fails terms n s source
+          (reads_none (Some (struct_shape d)) is (λ run. ap (λ b. cond b (read_object (read_struct terms.setting.registry (read terms.setting n) [] d.deny (plain_layout d)) run) None) named))
+          path es ending last f (ap (λ b. by_name d b path (feed es ending last)) (sym named) ∙ told)
   definition_fails (option_shape t) is = refused_fails terms n s source (reads_none (Some (option_shape t)) is (λ run. refl))
   definition_fails (result_shape t u) is = refused_fails terms n s source (reads_none (Some (result_shape t u)) is (λ run. refl))
   definition_fails (list_shape t) is = refused_fails terms n s source (reads_none (Some (list_shape t)) is (λ run. refl))

@@ -1,6 +1,6 @@
 -- What a shape is read as.
 use Rattle.std.specs.Prelude.{ℕ, List, map, Option, Some, cond}
-use Rattle.semantics.specs.Shapes.{ScalarType, is_named, Field, Definition, scalar_shape, struct_shape}
+use Rattle.semantics.specs.Shapes.{ScalarType, is_named, Field, Definition, scalar_shape, struct_shape, Registry}
 use Rattle.shape_core.specs.Scalars.{scalar_type_of}
 use Rattle.shape_core.specs.Shapes.{field_of}
 use Rattle.recode_top.specs.declared.reader.form.Form.{Form as DeclaredForm}
@@ -28,7 +28,7 @@ form_in s (Some (scalar_shape t)) = scalar_form t
 form_in s (Some (struct_shape d)) = cond (is_named d.kind) (struct_form s d.fields) unread
 form_in s _ = unread
 
-abbrev pub by_form : Form → ReadsPart → Reads Tree
-by_form (scalar_form t) read path input = scalar_at t path input
-by_form (struct_form s fs) read path input = plain_at read fs s path input
-by_form unread read path input = refused_at path input
+abbrev pub by_form : Registry → Form → ReadsPart → Reads Tree
+by_form g (scalar_form t) read path input = scalar_at t path input
+by_form g (struct_form s fs) read path input = plain_at g read fs s path input
+by_form g unread read path input = refused_at path input

@@ -1,11 +1,11 @@
 -- A struct without flattened fields, step by step: what the code does is told in these words.
 use Rattle.std.specs.Prelude.{ℕ, ◌+◌, List, [], ◌∷◌, ◌++◌, length, Option, Some, None, slice_get, Result, Ok, Bool, true, false}
 use Rattle.semantics.specs.Trees.{Tree, structure, trees_of}
-use Rattle.semantics.specs.Shapes.{ScalarType, Field}
+use Rattle.semantics.specs.Shapes.{ScalarType, Field, Registry, definition_at}
 use Rattle.semantics.specs.Events.{Span, of_struct, scalar, Event, leaf, start}
 use Rattle.semantics.specs.Faults.{Step, field_step, missing_field, duplicate_field, Fault}
 use Rattle.semantics.specs.Places.{At, below}
-use Rattle.semantics.specs.Reading.{from_events, set_scalar}
+use Rattle.semantics.specs.Reading.{from_events, or_value, absent, set_scalar}
 use Rattle.recode_top.specs.Reader.Input.{Input, ◌>>=◌, Reads, refused, unexpected, never, taken_at, turning}
 use Rattle.recode_top.specs.Reader.Structs.{ReadsPart, Told, Got, nothing_got, taken_span}
 use Rattle.recode_top.specs.Reader.Keys.{Named, key_at}
@@ -57,23 +57,27 @@ abbrev pub value_or_missing : Field → ℕ → Option Tree → List Step → In
 value_or_missing f shape None path input = refused (missing_field f.name shape) path input
 value_or_missing f shape (Some v) path input = Ok v
 
+-- the value of a field: what was read of it, or what its shape has where it is absent
+abbrev pub field_value : Registry → Field → ℕ → Option Tree → List Step → Input → Result Tree Fault
+field_value g f shape o path input = value_or_missing f shape (or_value o (absent (definition_at g f.shape))) path input
+
 -- the values of these fields, the first of which has place k, behind those that stand in front
-abbrev pub values_from : List Field → ℕ → ℕ → List Tree → List (At Told) → List Step → Input → Result (List Tree) Fault
-values_from [] shape k front got path input = Ok front
-values_from (f ∷ fs) shape k front got path input = value_or_missing f shape (first_value (below k got)) path input >>= λ v. values_from fs shape (k + 1) (front ++ (v ∷ [])) got path input
+abbrev pub values_from : Registry → List Field → ℕ → ℕ → List Tree → List (At Told) → List Step → Input → Result (List Tree) Fault
+values_from g [] shape k front got path input = Ok front
+values_from g (f ∷ fs) shape k front got path input = field_value g f shape (first_value (below k got)) path input >>= λ v. values_from g fs shape (k + 1) (front ++ (v ∷ [])) got path input
 
 abbrev pub as_struct : List Tree → Result Tree Fault
 as_struct vs = Ok (structure (trees_of vs))
 
 -- the struct of what was read
-abbrev pub struct_from : List Field → ℕ → Got → List Step → Input → Result Tree Fault
-struct_from fs shape s path input = values_from fs shape 0 [] s.values path input >>= as_struct
+abbrev pub struct_from : Registry → List Field → ℕ → Got → List Step → Input → Result Tree Fault
+struct_from g fs shape s path input = values_from g fs shape 0 [] s.values path input >>= as_struct
 
 abbrev pub struct_with : Input → Tree → Result (Tree × Input) Fault
 struct_with input v = Ok (v, input)
 
-abbrev pub finished_plain : List Field → ℕ → List Step → Got × Input → Result (Tree × Input) Fault
-finished_plain fs shape path x = struct_from fs shape x.0 path x.1 >>= struct_with x.1
+abbrev pub finished_plain : Registry → List Field → ℕ → List Step → Got × Input → Result (Tree × Input) Fault
+finished_plain g fs shape path x = struct_from g fs shape x.0 path x.1 >>= struct_with x.1
 
 abbrev pub begins_struct : Event → Bool
 begins_struct (start of_struct k n) = true
@@ -88,5 +92,5 @@ abbrev pub start_at : List Step → Input → Result Input Fault
 start_at path input = taken_at path input >>= λ x. start_of (begins_struct x.0) path x.1
 
 -- a struct of this shape
-abbrev pub plain_at : ReadsPart → List Field → ℕ → Reads Tree
-plain_at read fs shape path input = start_at path input >>= λ after. fields_at read fs path after >>= finished_plain fs shape path
+abbrev pub plain_at : Registry → ReadsPart → List Field → ℕ → Reads Tree
+plain_at g read fs shape path input = start_at path input >>= λ after. fields_at read fs path after >>= finished_plain g fs shape path

@@ -1,7 +1,9 @@
-//! A struct of the fields that were read.
+//! A struct of the fields that were read, where an option that is absent holds nothing.
 ghost use Rattle.std.specs.Prelude.{◌≡◌, [], map};
 ghost use Rattle.std.specs.Option.{option_map};
-ghost use Rattle.shape_core.specs.Shapes.{field_of};
+ghost use Rattle.semantics.specs.Reading.{or_value, absent};
+ghost use Rattle.semantics.specs.Shapes.{definition_at};
+ghost use Rattle.shape_core.specs.Shapes.{field_of, registry};
 ghost use Rattle.shape_core.specs.Trees.{tree_of};
 ghost use Rattle.recode_top.specs.Reader.Cursors.{input_of};
 ghost use Rattle.recode_top.specs.Reader.Filled.{got_of, told_all};
@@ -15,7 +17,7 @@ use crate::reader::stop::ReadStop;
 use crate::reader::task::{Target, Task};
 use crate::reader::trail::Trail;
 use event_core::DeserializeErrorKind;
-use shape_core::{Field, Items, ShapeName, Value};
+use shape_core::{Def, Field, Items, ShapeName, Shapes, Value};
 
 /// The struct of what was read, where each field has a value.
 pub fn gather<'de>(
@@ -25,7 +27,7 @@ pub fn gather<'de>(
     events: &Events<'_, '_>,
     trail: &Trail<'_>,
 ) -> Result<Value<'de>, ReadStop>
-    ensures { Gives tree_of result (struct_from (map field_of target.now.fields.now) target.now.shape.0 (got_of filled.entry.items) (steps trail.now) (input_of events.now)) }
+    ensures { Gives tree_of result (struct_from (registry task.now.shapes.now) (map field_of target.now.fields.now) target.now.shape.0 (got_of filled.entry.items) (steps trail.now) (input_of events.now)) }
 {
     let mut filled = filled;
     let values = gather_values(task, target, &mut filled, events, trail)?;
@@ -39,15 +41,28 @@ fn gather_values<'de>(
     events: &Events<'_, '_>,
     trail: &Trail<'_>,
 ) -> Result<Items<Value<'de>>, ReadStop>
-    ensures { Gives (λ vs. map tree_of vs) result (values_from (map field_of target.now.fields.now) target.now.shape.0 0 [] (told_all filled.old.items) (steps trail.now) (input_of events.now)) }
+    ensures { Gives (λ vs. map tree_of vs) result (values_from (registry task.now.shapes.now) (map field_of target.now.fields.now) target.now.shape.0 0 [] (told_all filled.old.items) (steps trail.now) (input_of events.now)) }
 {
     let mut values = Vec::new(task.alloc);
     'fields: for (place, field) in target.fields.iter().enumerate() {
-        let value = take_value(filled, place);
+        let value = or_absent(task.shapes, field, take_value(filled, place));
         let value = or_missing(task, target, field, value, events, trail)?;
         values.push(value)?;
     }
     Ok(Items::from_vec(values))
+}
+
+/// What was read of a field, or else that nothing is held, where it is an option.
+fn or_absent<'de>(shapes: &Shapes, field: &Field, value: Option<Value<'de>>) -> Option<Value<'de>>
+    ensures { option_map tree_of result ≡ or_value (option_map tree_of value.entry) (absent (definition_at (registry shapes.now) field.now.shape.0)) }
+{
+    match value {
+        Some(value) => Some(value),
+        None => match shapes.definition_at(field.shape) {
+            Some(Def::Option(_)) => Some(Value::None),
+            _ => None,
+        },
+    }
 }
 
 /// The value of a field, which must have one.

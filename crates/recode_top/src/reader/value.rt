@@ -2,7 +2,7 @@
 ghost use Rattle.std.specs.Prelude.{◌≡◌, ◌<◌, length, map, OnOk};
 ghost use Rattle.event_core.specs.Events.{event_of};
 ghost use Rattle.semantics.specs.Reading.{from_events};
-ghost use Rattle.shape_core.specs.Shapes.{field_of};
+ghost use Rattle.shape_core.specs.Shapes.{field_of, registry};
 ghost use Rattle.shape_core.specs.Trees.{tree_of};
 ghost use Rattle.recode_top.specs.Reader.Cursors.{input_of, IsLeft};
 ghost use Rattle.recode_top.specs.Reader.Filled.{got_of, terms_of};
@@ -61,7 +61,7 @@ fn read_struct<'de>(
     events: &mut Events<'_, 'de>,
     trail: &Trail<'_>,
 ) -> Result<Value<'de>, ReadStop>
-    ensures exact { Gives (λ v. (tree_of v, input_of events.new)) result (plain_at (reading (terms_of task.now) depth) (map field_of target.now.fields.now) target.now.shape.0 (steps trail.now) (input_of events.old)) }
+    ensures exact { Gives (λ v. (tree_of v, input_of events.new)) result (plain_at (registry task.now.shapes.now) (reading (terms_of task.now) depth) (map field_of target.now.fields.now) target.now.shape.0 (steps trail.now) (input_of events.old)) }
     ensures left { IsLeft (input_of events.old) (input_of events.new) }
     ensures falls { OnOk result (length (input_of events.new).events < length (input_of events.old).events) }
 {

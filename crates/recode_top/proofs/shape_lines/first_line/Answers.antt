@@ -4,7 +4,7 @@ use Rattle.std.specs.Str.{is_utf8, IsUtf8}
 use Rattle.std.proofs.lemmas.Str.{is_utf8-from_IsUtf8, IsUtf8-from_is_utf8}
 use Rattle.semantics.specs.ShapeText.{first_line}
 use Rattle.recode_top.specs.ShapeLines.{shape_line}
-use Rattle.recode_top.specs.LineReading.{line_of}
+use Rattle.laws.specs.ShapeLineReading.{line_of}
 use Rattle.recode_top.proofs.FirstLines.{taken, not_true, none_unended, none_unread, stands}
 use Rattle.recode_top.proofs.shape_lines.first_line.Goals as goal
 
@@ -26,8 +26,10 @@ returns-in-Some-line_of-clause-line c =
     let bs = c.args.left.now in
     let k = c.in-Some.end in
     let end = c.in-Some.ensures in
-    let all : take k bs ≡ c.in-Ok.line.now = ap (λ n. take n bs) (sym (c.unwrap_or.ensures ∙ ap (λ o. unwrap_or o (length bs)) c.in-Some.is)) ∙ sym c.in-Ok.ensures.cases.0 in
-    stands bs k (shape_line c.in-Some-line_of.line) end.0 end.1 (ap line_of all ∙ sym c.in-Some-line_of.ensures)
+    let cut : take c.unwrap_or.result bs ≡ take k bs = ap (λ n. take n bs) (c.unwrap_or.ensures ∙ ap (λ o. unwrap_or o (length bs)) c.in-Some.is) in
+    let all : take k bs ≡ c.in-Ok.line.now = sym cut ∙ sym c.in-Ok.ensures.cases.0 in
+    let utf8 : is_utf8 (take k bs) ≡ true = is_utf8-from_IsUtf8 (take k bs) (subst (λ (x : List ℕ). IsUtf8 x) cut c.in-Ok.ensures.cases.1) in
+    stands bs k (shape_line c.in-Some-line_of.line) end.0 end.1 end.2 utf8 (ap line_of all ∙ sym c.in-Some-line_of.ensures)
 
 pub returns-in-None-clause-refused : goal.returns-in-None-clause-refused
 returns-in-None-clause-refused c =

@@ -1,39 +1,42 @@
-use Rattle.std.proofs.Common.{List, [], ◌∷◌, ◌++◌, ◌≡◌, ◌+◌, true, sym, ap, ◌∙◌, map, length, subst}
+use Rattle.std.proofs.Common.{[], ◌∷◌, ◌++◌, ◌≡◌, true, sym, ap, ◌∙◌, map, subst}
 use Rattle.shape_core.specs.Shapes.{drafts_of}
-use Rattle.semantics.specs.ShapeText.{ShapeLine, AreLines, has_names, field_line, spelled_before}
-use Rattle.recode_top.specs.declared.shape_fault.ReadShapesError.{ReadShapesError}
-use Rattle.recode_top.specs.ShapeLines.{shape_line}
-use Rattle.recode_top.specs.ShapeReading.{IsNamed, IsPlaceFault, named_drafts}
-use Rattle.recode_top.proofs.LineSteps.{on_ok, struct_on, field_on, field_named, none_there, some_there}
+use Rattle.semantics.specs.ShapeLines.{ShapeLine, head_line, is_line}
+use Rattle.semantics.specs.ShapeText.{AreLines, may_stand, first_place, place_after}
+use Rattle.recode_top.specs.ShapeLines.{shape_line, head_view}
+use Rattle.recode_top.specs.ShapeReading.{IsNamed, named_drafts}
+use Rattle.recode_top.proofs.LineSteps.{on_ok, no_head, head_placed, head_drafts, other_placed, other_drafts}
 use Rattle.recode_top.proofs.shape_lines.place_line.Goals as goal
 
-pub returns-in-Struct-clause-good : goal.returns-in-Struct-clause-good
-returns-in-Struct-clause-good c =
+pub returns-in-Head-clause-good : goal.returns-in-Head-clause-good
+returns-in-Head-clause-good c =
     let ls = map shape_line c.args.lines.now in
     let l = shape_line c.args.line.now in
-    let name = c.in-Struct.name.now in
-    let drafts = drafts_of c.name_struct.new.builder in
-    on_ok c.name_struct.result (IsNamed ls name drafts) (AreLines (ls ++ l ∷ [])) c.name_struct.ensures.named
-    (struct_on ls l name drafts (ap shape_line c.in-Struct.is) c.requires.good c.requires.names)
+    let name = c.in-Head.name.now in
+    let head = head_view c.in-Head.head in
+    let drafts = drafts_of c.name_shape.new.builder in
+    let is : l ≡ head_line name head = ap shape_line c.in-Head.is in
+    on_ok c.name_shape.result (IsNamed ls name drafts) (AreLines (ls ++ l ∷ [])) c.name_shape.ensures.named
+    (λ n. subst (λ (x : ShapeLine). AreLines (ls ++ x ∷ [])) (sym is) (head_placed ls name head drafts c.requires.good (ap is_line (sym is) ∙ c.requires.line) n))
 
-pub returns-then-is_empty-clause-refused : goal.returns-then-is_empty-clause-refused
-returns-then-is_empty-clause-refused c =
+pub returns-in-Head-clause-named : goal.returns-in-Head-clause-named
+returns-in-Head-clause-named c =
     let ls = map shape_line c.args.lines.now in
-    let none : ls ≡ [] = none_there c.args.lines.now c.if-is_empty.ensures in
-    let l = field_line c.in-Field.name.now c.in-Field.shape.now in
-    let is : shape_line c.args.line.now ≡ l = ap shape_line c.in-Field.is in
-    let names : has_names l ≡ true = sym (ap has_names is) ∙ c.requires.names in
-    subst (λ (e : ReadShapesError). IsPlaceFault ls (shape_line c.args.line.now) e) (sym c.fault.ensures) (λ rest. record {
-      refused = (none, (c.in-Field.name.now, c.in-Field.shape.now, rest, names, ap (λ x. spelled_before x rest) is));
-      at = ap (λ (x : List ShapeLine). length x + 1) (sym none);
-    })
+    let l = shape_line c.args.line.now in
+    let name = c.in-Head.name.now in
+    let head = head_view c.in-Head.head in
+    let drafts = drafts_of c.name_shape.new.builder in
+    let is : l ≡ head_line name head = ap shape_line c.in-Head.is in
+    on_ok c.name_shape.result (IsNamed ls name drafts) (drafts ≡ named_drafts (ls ++ l ∷ [])) c.name_shape.ensures.named
+    (λ n. head_drafts ls name head drafts n ∙ ap (λ x. named_drafts (ls ++ x ∷ [])) (sym is))
 
-pub returns-else-is_empty-clause-good : goal.returns-else-is_empty-clause-good
-returns-else-is_empty-clause-good c =
-    field_on (map shape_line c.args.lines.now) (shape_line c.args.line.now) c.in-Field.name.now c.in-Field.shape.now (ap shape_line c.in-Field.is) c.requires.good c.requires.names
-    (some_there c.args.lines.now c.if-is_empty.ensures)
-
-pub returns-else-is_empty-clause-named : goal.returns-else-is_empty-clause-named
-returns-else-is_empty-clause-named c =
+pub returns-in_default : goal.returns-in_default
+returns-in_default c =
     let ls = map shape_line c.args.lines.now in
-    c.requires.named ∙ field_named ls c.in-Field.name.now c.in-Field.shape.now ∙ ap (λ x. named_drafts (ls ++ x ∷ [])) (sym (ap shape_line c.in-Field.is))
+    let l = shape_line c.args.line.now in
+    let other = no_head c.args.line.now c.in_default.not-Head in
+    let may : may_stand (place_after first_place ls) l ≡ true = ap (λ p. may_stand p l) (sym c.requires.place) ∙ sym c.may_stand.ensures ∙ c.if-not-may_stand.false in
+    record {
+      good = other_placed ls l c.requires.good c.requires.line other may;
+      named = other_drafts ls l (drafts_of c.args.builder.now) other c.requires.named;
+      refused = tt;
+    }
