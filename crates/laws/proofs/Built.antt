@@ -1,12 +1,12 @@
 -- What the definitions of a checked registry are.
-use Rattle.std.proofs.Common.{◌≡◌, ℕ, zero, suc, ◌<◌, List, [], ◌∷◌, length, map, Option, Some, None, Bool, true, false, cond, not, ◌||◌, if◌then◌else◌, is_some, option_and_then, option_map, refl, sym, ap, ◌∙◌, subst}
+use Rattle.std.proofs.Common.{◌≡◌, ℕ, zero, suc, ◌<◌, List, [], ◌∷◌, length, map, Option, Some, None, Bool, true, false, not, ◌||◌, if◌then◌else◌, is_some, option_and_then, option_map, refl, sym, ap, ◌∙◌, subst}
 use Rattle.std.proofs.lemmas.List.{length-map}
 use Rattle.std.proofs.lemmas.Option.{slice_get-map, slice_get_within}
 use Rattle.std.specs.Prelude.{slice_get}
 use Rattle.std.specs.List.{list_any, AllByRecursion as Every}
-use Rattle.semantics.specs.Shapes.{is_named, Field, StructShape, Definition, struct_shape, transparent_shape, Shape, Draft, Registry, definition_of, definition_at}
-use Rattle.semantics.specs.Registry.{not_built, never_skips, has_attribute, is_unbuilt, is_not_built, rules_of, first_broken, fault_of, drafted, IsRegistry}
-use Rattle.semantics.specs.Typed.{through, base_within, base, object_of, object_at}
+use Rattle.semantics.specs.Shapes.{Field, StructShape, Definition, struct_shape, transparent_shape, Shape, Draft, Registry, definition_of, definition_at}
+use Rattle.semantics.specs.Registry.{not_built, never_skips, has_attribute, is_unbuilt, is_not_built, Rule, rules_of, first_broken, fault_of, lies_on_cycle, drafted, IsRegistry}
+use Rattle.semantics.specs.Typed.{through, base_within, base, struct_of, struct_at}
 
 -- a field that can be read and written
 pub record BuiltField (f : Field) : Type 0 where
@@ -64,20 +64,49 @@ pub found_shape : (o : Option Shape) (d : Definition) → option_and_then defini
 found_shape None d e = absurd cc
 found_shape (Some x) d e = (x, refl, cc)
 
-no_fault_built : (ds : List Draft) (i : ℕ) (d : Draft) (b : Bool) → is_not_built d ≡ b → (if b then Some not_built else first_broken (rules_of ds i d)) ≡ None → b ≡ false
+no_fault_built : (ds : List Draft) (i : ℕ) (d : Draft) (b : Bool) → is_not_built d ≡ b → (if b then Some not_built else first_broken (rules_of ds i d)) ≡ None
+    → (b ≡ false) × (first_broken (rules_of ds i d) ≡ None)
 no_fault_built ds i d true is e = absurd cc
-no_fault_built ds i d false is e = refl
+no_fault_built ds i d false is e = (refl, e)
 
--- each shape of a checked registry is of a form that is built
-pub built : (g : Registry) → IsRegistry g → (s : ℕ) (d : Definition) → definition_at g s ≡ Some d → is_unbuilt d ≡ false
-built g checked s d e =
+-- a shape of a checked registry, which is of a form that is built and breaks no rule
+pub record Checked (g : Registry) (s : ℕ) (d : Definition) : Type 0 where
+  pub shape : Shape
+  pub found : slice_get g s ≡ Some shape
+  pub is : shape.definition ≡ d
+  pub built : is_unbuilt shape.definition ≡ false
+  pub rules : first_broken (rules_of (map drafted g) s (drafted shape)) ≡ None
+
+pub checked_at : (g : Registry) → IsRegistry g → (s : ℕ) (d : Definition) → definition_at g s ≡ Some d → Checked g s d
+checked_at g checked s d e =
     let (x, found, is) = found_shape (slice_get g s) d e in
     let within : s < length (map drafted g) = subst (λ n. s < n) (sym (length-map g drafted)) (slice_get_within g s x found) in
     let draft : slice_get (map drafted g) s ≡ Some (drafted x) = slice_get-map drafted g s ∙ ap (option_map drafted) found in
     let none : fault_of (map drafted g) s (drafted x) ≡ None = ap (option_and_then (fault_of (map drafted g) s)) (sym draft) ∙ checked.sound s within in
-    let fine = no_fault_built (map drafted g) s (drafted x) (is_not_built (drafted x)) refl none in
-    let (proxy, definition) = neither (is_some x.proxy) (is_unbuilt x.definition) fine in
-    ap is_unbuilt (sym is) ∙ definition
+    let (fine, rules) = no_fault_built (map drafted g) s (drafted x) (is_not_built (drafted x)) refl none in
+    record { shape = x; found = found; is = is; built = (neither (is_some x.proxy) (is_unbuilt x.definition) fine).1; rules = rules }
+
+-- each shape of a checked registry is of a form that is built
+pub built : (g : Registry) → IsRegistry g → (s : ℕ) (d : Definition) → definition_at g s ≡ Some d → is_unbuilt d ≡ false
+built g checked s d e =
+    let c = checked_at g checked s d e in
+    ap is_unbuilt (sym c.is) ∙ c.built
+
+-- no rule of the list is broken
+none_broken : (rs : List Rule) → first_broken rs ≡ None → Every (λ r. r.broken ≡ false) rs
+none_broken [] e = tt
+none_broken (r ∷ rs) e = by_test r.broken e (none_broken rs)
+  where
+    by_test : (b : Bool) → (if b then Some r.kind else first_broken rs) ≡ None → (first_broken rs ≡ None → Every (λ r. r.broken ≡ false) rs)
+        → (b ≡ false) × Every (λ r. r.broken ≡ false) rs
+    by_test true e rest = absurd cc
+    by_test false e rest = (refl, rest e)
+
+-- no shape of a checked registry is reached from itself by steps alone
+pub on_no_cycle : (g : Registry) → IsRegistry g → (s : ℕ) (d : Definition) → definition_at g s ≡ Some d → lies_on_cycle (map drafted g) s ≡ false
+on_no_cycle g checked s d e =
+    let c = checked_at g checked s d e in
+    (none_broken (rules_of (map drafted g) s (drafted c.shape)) c.rules).1.1.1.1.0
 
 -- a definition that isn't transparent
 abbrev pub is_opaque : Definition → Bool
@@ -115,21 +144,11 @@ within_defined g (suc n) s e is = found_defined g n s e (λ u. within_defined g 
 pub base_defined : (g : Registry) (s : ℕ) (d : Definition) → base g s ≡ Some d → (t : ℕ) × (definition_at g t ≡ Some d)
 base_defined g s d e = within_defined g (length g) s d e
 
-struct_of_object : (o : Option Definition) (q : StructShape) → option_and_then object_of o ≡ Some q → (o ≡ Some (struct_shape q)) × (is_named q.kind ≡ true)
-struct_of_object None q e = absurd cc
-struct_of_object (Some (struct_shape x)) q e = by_kind (is_named x.kind) refl e
-  where
-    by_kind : (b : Bool) → is_named x.kind ≡ b → cond b (Some x) None ≡ Some q → (Some (struct_shape x) ≡ Some (struct_shape q)) × (is_named q.kind ≡ true)
-    by_kind true named e =
-        let is : x ≡ q = cc in
-        (ap (λ y. Some (struct_shape y)) is, ap (λ y. is_named y.kind) (sym is) ∙ named)
-    by_kind false named e = absurd cc
-struct_of_object (Some _) q e = absurd cc
+struct_of_some : (o : Option Definition) (q : StructShape) → option_and_then struct_of o ≡ Some q → o ≡ Some (struct_shape q)
+struct_of_some None q e = absurd cc
+struct_of_some (Some (struct_shape x)) q e = cc
+struct_of_some (Some _) q e = absurd cc
 
--- a struct that is an object has named fields, and is what its shape is made of
-pub object_based : (g : Registry) (s : ℕ) (q : StructShape) → object_at g s ≡ Some q → (base g s ≡ Some (struct_shape q)) × (is_named q.kind ≡ true)
-object_based g s q e = struct_of_object (base g s) q e
-
--- it is defined at some shape
-pub object_defined : (g : Registry) (s : ℕ) (q : StructShape) → object_at g s ≡ Some q → (t : ℕ) × (definition_at g t ≡ Some (struct_shape q))
-object_defined g s q e = base_defined g s (struct_shape q) (object_based g s q e).0
+-- a struct is defined at some shape
+pub struct_defined : (g : Registry) (s : ℕ) (q : StructShape) → struct_at g s ≡ Some q → (t : ℕ) × (definition_at g t ≡ Some (struct_shape q))
+struct_defined g s q e = base_defined g s (struct_shape q) (struct_of_some (base g s) q e)

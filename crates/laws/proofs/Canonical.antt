@@ -1,188 +1,248 @@
 -- What a value is written as, its entries in any order, is read as the value.
-use Rattle.std.proofs.Common.{◌≡◌, ℕ, zero, suc, ◌≤◌, List, [], ◌∷◌, Option, Some, None, Bool, true, false, cond, ◌&&◌, Ok, Err, option_and_then, refl, sym, ap, ap₂, ◌∙◌, subst, arith}
-use Rattle.std.specs.Prelude.{Contains}
+use Rattle.std.proofs.Common.{◌≡◌, ℕ, zero, suc, ◌≤◌, List, [], ◌∷◌, length, Option, Some, None, Bool, true, false, cond, Ok, codes, option_map, option_and_then, refl, sym, ap, ap₂, ◌∙◌, subst, arith}
 use Rattle.std.specs.List.{AllByRecursion as Every}
-use Rattle.semantics.specs.Trees.{Tree, unsigned, structure, Trees, no_trees, tree, text, some, ok, err, list}
-use Rattle.semantics.specs.Shapes.{bits64, ScalarType, is_named, Field, effective_name, StructShape, Definition, scalar_shape, struct_shape, transparent_shape, Registry, definition_at}
-use Rattle.semantics.specs.Scalars.{fits_unsigned}
+use Rattle.semantics.specs.Trees.{Tree, none, some, ok, err, list, structure, Trees, no_trees, tree, tree_count}
+use Rattle.semantics.specs.Shapes.{ScalarType, is_tuple, Field, StructShape, Definition, scalar_shape, option_shape, result_shape, list_shape, array_shape, struct_shape, transparent_shape, Registry, definition_at}
 use Rattle.semantics.specs.Registry.{is_unbuilt, IsRegistry}
-use Rattle.semantics.specs.Calls.{u64_literal}
-use Rattle.semantics.specs.Runs.{Run}
-use Rattle.semantics.specs.Documents.{Document, plain, object, Members}
-use Rattle.semantics.specs.Results.{on_ok}
-use Rattle.semantics.specs.Typed.{on_some, scalar_of, struct_of, object_of, scalar_at, struct_at, object_at, option_at, ok_at, err_at, item_at, typed, fields_typed}
-use Rattle.semantics.specs.Writing.{Written, form_not_built, not_typed, is_u64, write_unsigned, put_member, of_form, write, write_fields}
-use Rattle.semantics.specs.Reading.{Setting, from_events, Reader, plain_layout, read_struct, read_object, read_as, read_shape, read}
-use Rattle.semantics.specs.Depths.{of_part, depth, deepest_field}
-use Rattle.semantics.specs.Validity.{field_shapes, parts_at, IsPart, IsApart, HasNoClash, Separable, OnPart, Alike, EachAlike, FieldsAlike}
-use Rattle.laws.proofs.Built.{BuiltField, is_opaque, struct_built, built, base_is, no_base}
-use Rattle.laws.proofs.Typing.{is_both}
-use Rattle.laws.proofs.Orders.{Comes, comes_plain, comes_object}
+use Rattle.semantics.specs.Calls.{null_literal}
+use Rattle.semantics.specs.Events.{no_note, named}
+use Rattle.semantics.specs.Runs.{Run, Entry}
+use Rattle.semantics.specs.Documents.{free, Document, plain, object, Documents, no_documents, document, no_members, member, on_tape}
+use Rattle.semantics.specs.Typed.{base, on_some, has_length}
+use Rattle.semantics.specs.Writing.{where_fits, written_sequence, written_object, write, write_each, write_items, write_fields}
+use Rattle.semantics.specs.Reading.{Setting, from_events, Reader, plain_layout, read_option, read_scalar, read_sequence, read_each, read_items, by_outcome, read_result, read_elements, read_tuple, read_struct, read_object, and_trees, read_as, read_shape, read}
+use Rattle.semantics.specs.Depths.{depth, deepest, deepest_field}
+use Rattle.semantics.specs.Validity.{HasNoClash, is_null_form, Distinct, Separable, EachAlike, FieldsAlike}
+use Rattle.laws.proofs.Built.{BuiltField, is_opaque, struct_built, built, no_base}
+use Rattle.laws.proofs.Based.{write_by, write_is, depth_by, depth_is, positive, alike_by, write_here, depth_here, alike_here, write_inner, depth_inner, alike_inner}
+use Rattle.laws.proofs.Nulls.{none_written, not_null, holds_something}
+use Rattle.laws.proofs.Orders.{Comes, comes_plain, EachComes, comes_sequence, comes_object, Carried}
+use Rattle.semantics.specs.Places.{Choice}
+use Rattle.semantics.specs.Keys.{keys}
+use Rattle.laws.proofs.Mixes.{Mixes, mixes_one}
 use Rattle.laws.proofs.Places.{IsOwn}
-use Rattle.laws.proofs.Structs.{ReadAs, FieldsRead, struct_read}
-
--- what is reached from a part is reached from the whole
-part_separable : (g : Registry) (s t : ℕ) → IsPart g s t → Separable g s → Separable g t
-part_separable g s t part sep u (us, leads) = sep u (t ∷ us, (part, leads))
-
-here_apart : (g : Registry) (s : ℕ) (d : Definition) → Separable g s → definition_at g s ≡ Some d → HasNoClash g d
-here_apart g s d sep is = subst (IsApart g) is (sep s ([], refl))
-
--- a shape that is read isn't transparent
-opaque_here : (g : Registry) (s : ℕ) (d : Definition) → Separable g s → definition_at g s ≡ Some d → is_opaque d ≡ true
-opaque_here g s (transparent_shape t) sep is = absurd (here_apart g s (transparent_shape t) sep is)
-opaque_here g s _ sep is = refl
+use Rattle.laws.proofs.Reached.{here_apart, PartsSeparable, parts_separable, first_part, later_part, each_separable}
+use Rattle.laws.proofs.ScalarsBack.{literal_at, scalar_inverted, scalar_back}
+use Rattle.laws.proofs.Structs.{ReadAs, FieldsReadAs, FieldsRead, struct_read}
+use Rattle.laws.proofs.Writes.{fits_inverted, sequence_inverted, object_inverted, under_inverted, document_inverted}
 
 own_fields : (fs : List Field) → Every BuiltField fs → Every IsOwn fs
 own_fields [] all = tt
 own_fields (f ∷ fs) (b, all) = (b.flattened, own_fields fs all)
 
--- what is a part of the fields is one of the struct
-first_part : (f : Field) (fs : List Field) → Contains (field_shapes (f ∷ fs)) f.shape
-first_part f fs = (0, omega arith, refl)
+-- such a value was read, where this is what the shape is made of
+abbrev pub ReadBy : Registry → Definition → Tree → Option Tree → Type 0
+ReadBy g d v o = (w : Tree) × (o ≡ Some w) × alike_by g (Some d) v w
 
-later_part : (f : Field) (fs : List Field) (t : ℕ) → Contains (field_shapes fs) t → Contains (field_shapes (f ∷ fs)) t
-later_part f fs t (k, less, is) = (suc k, omega arith, is)
+abbrev pub EachReadAs : Registry → ℕ → Trees → Option Trees → Type 0
+EachReadAs g s vs o = (ws : Trees) × (o ≡ Some ws) × EachAlike g s vs ws
 
-each_separable : (g : Registry) (fs : List Field) → ((t : ℕ) → Contains (field_shapes fs) t → Separable g t) → Every (λ f. Separable g f.shape) fs
-each_separable g [] all = tt
-each_separable g (f ∷ fs) all = (all f.shape (first_part f fs), each_separable g fs (λ t h. all t (later_part f fs t h)))
+each_length : (ds : Documents) (rs : List Run) → EachComes ds rs → (vs : Trees) (g : Registry) (s : ℕ) → write_each g s vs ≡ Ok ds → length rs ≡ tree_count vs
+each_length no_documents rs is no_trees g s e = ap length is
+each_length no_documents rs is (tree v vs) g s e =
+    let (x, xs, is_x, is_xs, same) = document_inverted (write g s v) (write_each g s vs) no_documents e in
+    absurd cc
+each_length (document d ds) rs (r, rest, is, comes, each) no_trees g s e = absurd cc
+each_length (document d ds) rs (r, rest, is, comes, each) (tree v vs) g s e =
+    let (x, xs, is_x, is_xs, same) = document_inverted (write g s v) (write_each g s vs) (document d ds) e in
+    let tails : xs ≡ ds = cc in
+    ap length is ∙ ap suc (each_length ds rest each vs g s (is_xs ∙ ap Ok tails))
 
-pub number_inverted : (n : ℕ) (t : ScalarType) (d : Document) → write_unsigned n t ≡ Ok d → (is_u64 t ≡ true) × (fits_unsigned bits64 n ≡ true) × (plain (u64_literal n) ≡ d)
-number_inverted n t d e = by_tests (is_u64 t) (fits_unsigned bits64 n) e
-  where
-    by_tests : (b c : Bool) → cond b (cond c (Ok (plain (u64_literal n))) (Err not_typed)) (Err form_not_built) ≡ Ok d → (b ≡ true) × (c ≡ true) × (plain (u64_literal n) ≡ d)
-    by_tests true true e = (refl, refl, cc)
-    by_tests true false e = absurd cc
-    by_tests false c e = absurd cc
-
-pub object_inverted : (o : Written Members) (d : Document) → on_ok o (λ ms. Ok (object ms)) ≡ Ok d → (ms : Members) × (o ≡ Ok ms) × (object ms ≡ d)
-object_inverted (Err e) d is = absurd cc
-object_inverted (Ok ms) d is = (ms, refl, cc)
-
-no_scalar : (n : ℕ) (d : Document) (o : Option ScalarType) → o ≡ None → of_form o (write_unsigned n) ≡ Ok d → ⊥
-no_scalar n d None is e = cc
-no_scalar n d (Some t) is e = cc
-
-module _ (g : Registry) where
-  no_object : (vs : Trees) (d : Document) (o : Option StructShape) → o ≡ None → of_form o (λ q. on_ok (write_fields g q.fields vs) (λ ms. Ok (object ms))) ≡ Ok d → ⊥
-  no_object vs d None is e = cc
-  no_object vs d (Some q) is e = cc
+-- the one entry of a result
+one_entry : (name : List ℕ) (d : Document) (es : List Entry) → Mixes Carried (record { mark = free; name = name; document = d } ∷ []) es
+    → (e : Entry) × (es ≡ e ∷ []) × ((n : _) × (e.key ≡ named (on_tape name) None n)) × Comes d e.run
+one_entry name d es order =
+    let (e, is, (y, (same, p), (n, key, shown))) = mixes_one Carried (record { mark = free; name = name; document = d }) es order in
+    (e, is, (n, key ∙ ap (λ t. named (on_tape t) None n) same), (y.document, p, shown))
 
 module _ (g : Setting) (checked : IsRegistry g.registry) (n : ℕ) (rd : Reader)
-    (parts : (s : ℕ) → Separable g.registry s → (v : Tree) (d : Document) (r : Run) → typed g.registry s v ≡ true → depth g.registry s v ≤ n → write g.registry s v ≡ Ok d → Comes d r
+    (parts : (s : ℕ) → Separable g.registry s → (v : Tree) (d : Document) (r : Run) → depth g.registry s v ≤ n → write g.registry s v ≡ Ok d → Comes d r
     → ReadAs g.registry s v (rd s from_events r)) where
-  fields_read : (fs : List Field) (vs : Trees) → Every (λ f. Separable g.registry f.shape) fs → fields_typed g.registry fs vs ≡ true → deepest_field g.registry fs vs ≤ n → FieldsRead g.registry rd fs vs
-  fields_read [] vs sep is deep = tt
-  fields_read (f ∷ fs) no_trees sep is deep = tt
-  fields_read (f ∷ fs) (tree v vs) (here, sep) is deep =
-      let (is_v, is_vs) = is_both (typed g.registry f.shape v) (fields_typed g.registry fs vs) is in (
-        (λ d r e comes. parts f.shape here v d r is_v (omega arith) e comes),
-        fields_read fs vs sep is_vs (omega arith),
+  scalar_step : (s : ℕ) (t : ScalarType) → HasNoClash g.registry (scalar_shape t) → (v : Tree) (d : Document) (r : Run) → write_by g.registry (Some (scalar_shape t)) v ≡ Ok d → Comes d r
+      → ReadBy g.registry (scalar_shape t) v (read_scalar g.borrow s t r)
+  scalar_step s t apart v d r e comes =
+      let (fits, is) = scalar_inverted g.registry t v d e in
+      let (note, is_r) = comes_plain (literal_at t v) r (subst (λ x. Comes x r) (sym is) comes) in
+      let (w, set, alike) = scalar_back g.registry g.borrow s t v apart fits in
+      (w, ap (read_scalar g.borrow s t) is_r ∙ set, alike)
+
+  option_step : (i : ℕ) → on_some (base g.registry i) is_null_form ≡ false → Separable g.registry i → (v : Tree) (d : Document) (r : Run)
+      → depth_by g.registry (Some (option_shape i)) v ≤ suc n → write_by g.registry (Some (option_shape i)) v ≡ Ok d → Comes d r
+      → ReadBy g.registry (option_shape i) v (read_option (rd i from_events) r)
+  option_step i other sep none d r deep e comes =
+      let is : plain null_literal ≡ d = cc in
+      let (note, is_r) = comes_plain null_literal r (subst (λ x. Comes x r) (sym is) comes) in
+      (none, ap (read_option (rd i from_events)) is_r, refl)
+  option_step i other sep (some v) d r deep e comes =
+      let here = holds_something d r (not_null g.registry (base g.registry i) v d other (sym (write_is g.registry i v) ∙ e)) comes in
+      let (w, inner, alike) = parts i sep v d r (omega (arith, deep)) e comes in
+      (some w, ap₂ (λ b o. cond b (Some none) (option_map some o)) here inner, (w, refl, alike))
+  option_step i other sep _ d r deep e comes = absurd cc
+
+  -- what is read of the one entry of a result
+  outcome_back : (i j : ℕ) (name : List ℕ) (x d : Document) (r : Run) → object (member free name x no_members) ≡ d → Comes d r
+      → (e : Entry) × Comes x e.run
+      × (read_object (read_result rd i j) r ≡ option_and_then (λ o. o) (by_outcome (named (on_tape name) None no_note) (option_map ok (rd i from_events e.run)) (option_map err (rd j from_events e.run))))
+  outcome_back i j name x d r is comes =
+      let (note, inside, es, is_r, cut, order) = comes_object (member free name x no_members) r (subst (λ q. Comes q r) (sym is) comes) in
+      let (e, is_es, (m, key), first) = one_entry name x es order in (
+        e,
+        first,
+        ap (read_object (read_result rd i j)) is_r ∙ ap (option_and_then (read_result rd i j)) cut ∙ ap (read_result rd i j) is_es
+            ∙ ap (λ k. option_and_then (λ o. o) (by_outcome k (option_map ok (rd i from_events e.run)) (option_map err (rd j from_events e.run)))) key,
       )
 
-  number_step : (s : ℕ) (def : Definition) → definition_at g.registry s ≡ Some def → is_opaque def ≡ true → (m : ℕ) (d : Document) (r : Run) → write g.registry s (unsigned m) ≡ Ok d → Comes d r
-      → ReadAs g.registry s (unsigned m) (read_as g rd from_events def r)
-  number_step s (scalar_shape t) at opaque m d r e comes =
-      let is_t : scalar_at g.registry s ≡ Some t = ap (option_and_then scalar_of) (base_is g.registry s (scalar_shape t) at opaque) in
-      let (type, fits, is_d) = number_inverted m t d (sym (ap (λ o. of_form o (write_unsigned m)) is_t) ∙ e) in
-      let (note, is_r) = comes_plain (u64_literal m) r (subst (λ q. Comes q r) (sym is_d) comes) in (
-        unsigned m,
-        ap (read_as g rd from_events (scalar_shape t)) is_r ∙ ap₂ (λ a b. cond (a && b) (Some (unsigned m)) None) type fits,
-        refl,
-      )
-  number_step s other at opaque m d r e comes =
-      absurd (no_scalar m d (scalar_at g.registry s) (ap (option_and_then scalar_of) (base_is g.registry s other at opaque)) e)
+  result_step : (i j : ℕ) → Separable g.registry i → Separable g.registry j → (v : Tree) (d : Document) (r : Run)
+      → depth_by g.registry (Some (result_shape i j)) v ≤ suc n → write_by g.registry (Some (result_shape i j)) v ≡ Ok d → Comes d r
+      → ReadBy g.registry (result_shape i j) v (read_object (read_result rd i j) r)
+  result_step i j sep other (ok v) d r deep e comes =
+      let (x, is_x, is) = under_inverted (codes "Ok") (write g.registry i v) d e in
+      let (entry, first, whole) = outcome_back i j (codes "Ok") x d r is comes in
+      let (w, inner, alike) = parts i sep v x entry.run (omega (arith, deep)) is_x first in
+      (ok w, whole ∙ ap (option_map ok) inner, (w, refl, alike))
+  result_step i j other sep (err v) d r deep e comes =
+      let (x, is_x, is) = under_inverted (codes "Err") (write g.registry j v) d e in
+      let (entry, first, whole) = outcome_back i j (codes "Err") x d r is comes in
+      let (w, inner, alike) = parts j sep v x entry.run (omega (arith, deep)) is_x first in
+      (err w, whole ∙ ap (option_map err) inner, (w, refl, alike))
+  result_step i j sep other _ d r deep e comes = absurd cc
 
-  named_by : (s : ℕ) (q : StructShape) (vs : Trees) (d : Document) (b : Bool) → object_at g.registry s ≡ cond b (Some q) None
-      → of_form (object_at g.registry s) (λ x. on_ok (write_fields g.registry x.fields vs) (λ ms. Ok (object ms))) ≡ Ok d → b ≡ true
-  named_by s q vs d true is e = refl
-  named_by s q vs d false is e = absurd (no_object g.registry vs d (object_at g.registry s) is e)
+  each_back : (i : ℕ) → Separable g.registry i → (vs : Trees) (ds : Documents) (rs : List Run) → deepest g.registry i vs ≤ n → write_each g.registry i vs ≡ Ok ds → EachComes ds rs
+      → EachReadAs g.registry i vs (read_each (rd i from_events) rs)
+  each_back i sep no_trees ds rs deep e each =
+      let is : no_documents ≡ ds = cc in
+      let ended : rs ≡ [] = subst (λ q. EachComes q rs) (sym is) each in
+      (no_trees, ap (read_each (rd i from_events)) ended, refl)
+  each_back i sep (tree v vs) ds rs deep e each =
+      let (x, xs, is_x, is_xs, is) = document_inverted (write g.registry i v) (write_each g.registry i vs) ds e in
+      let (r, rest, is_rs, first, others) = subst (λ q. EachComes q rs) is each in
+      let (w, one_read, alike) = parts i sep v x r (omega (arith, deep)) is_x first in
+      let (ws, all_read, alikes) = each_back i sep vs xs rest (omega (arith, deep)) is_xs others in
+      (tree w ws, ap (read_each (rd i from_events)) is_rs ∙ ap₂ and_trees one_read all_read, (w, ws, refl, alike, alikes))
 
-  struct_step : (s : ℕ) (def : Definition) → definition_at g.registry s ≡ Some def → is_unbuilt def ≡ false → Separable g.registry s → (vs : Trees) (d : Document) (r : Run)
-      → typed g.registry s (structure vs) ≡ true → depth g.registry s (structure vs) ≤ suc n → write g.registry s (structure vs) ≡ Ok d → Comes d r
-      → ReadAs g.registry s (structure vs) (read_as g rd from_events def r)
-  struct_step s (struct_shape q) at fine sep vs d r is deep e comes =
-      let b = struct_built q fine in
-      let based = base_is g.registry s (struct_shape q) at refl in
-      let struct : struct_at g.registry s ≡ Some q = ap (option_and_then struct_of) based in
-      let objects : object_at g.registry s ≡ cond (is_named q.kind) (Some q) None = ap (option_and_then object_of) based in
-      let named = named_by s q vs d (is_named q.kind) objects e in
-      let is_q : object_at g.registry s ≡ Some q = objects ∙ ap (λ c. cond c (Some q) None) named in
-      let (ms, is_ms, is_d) = object_inverted (write_fields g.registry q.fields vs) d (sym (ap (λ o. of_form o (λ x. on_ok (write_fields g.registry x.fields vs) (λ l. Ok (object l)))) is_q) ∙ e) in
-      let (note, i, es, is_r, cut, order) = comes_object ms r (subst (λ x. Comes x r) (sym is_d) comes) in
-      let all_typed : fields_typed g.registry q.fields vs ≡ true = sym (ap (λ o. on_some o (λ x. fields_typed g.registry x.fields vs)) struct) ∙ is in
-      let deepest : suc (deepest_field g.registry q.fields vs) ≤ suc n = subst (λ o. suc (of_part o (λ x. deepest_field g.registry x.fields vs)) ≤ suc n) struct deep in
-      let each = each_separable g.registry q.fields (λ t h. part_separable g.registry s t (subst (λ o. Contains (parts_at o) t) (sym at) h) sep) in
-      let (ws, read, alike) = struct_read g.registry rd [] q.deny (plain_layout q) vs ms es (here_apart g.registry s (struct_shape q) sep at []) (own_fields q.fields b.fields)
-      (fields_read q.fields vs each all_typed (omega arith)) is_ms order in (
-        structure ws,
-        ap (λ c. cond c (read_object (read_struct g.registry rd [] q.deny (plain_layout q)) r) None) named ∙ ap (read_object (read_struct g.registry rd [] q.deny (plain_layout q))) is_r
-            ∙ ap (option_and_then (read_struct g.registry rd [] q.deny (plain_layout q))) cut ∙ read,
-        subst (λ o. OnPart o (λ x. (us : Trees) × (structure ws ≡ structure us) × FieldsAlike g.registry x.fields vs us)) (sym is_q) (ws, refl, alike),
+  -- a list, or an array of so many items
+  items_back : (i : ℕ) (len : Option ℕ) → Separable g.registry i → (vs : Trees) (d : Document) (r : Run) → deepest g.registry i vs ≤ n
+      → where_fits (has_length len (tree_count vs)) (written_sequence (write_each g.registry i vs)) ≡ Ok d → Comes d r
+      → (ws : Trees) × (read_sequence (read_items (rd i from_events) len) r ≡ Some (list ws)) × EachAlike g.registry i vs ws
+  items_back i len sep vs d r deep e comes =
+      let (test, written) = fits_inverted (has_length len (tree_count vs)) (written_sequence (write_each g.registry i vs)) d e in
+      let (ds, is_ds, is) = sequence_inverted (write_each g.registry i vs) d written in
+      let (note, inside, rs, is_r, cut, each) = comes_sequence ds r (subst (λ q. Comes q r) (sym is) comes) in
+      let (ws, all_read, alikes) = each_back i sep vs ds rs deep is_ds each in
+      let long : has_length len (length rs) ≡ true = ap (has_length len) (each_length ds rs each vs g.registry i is_ds) ∙ test in (
+        ws,
+        ap (read_sequence (read_items (rd i from_events) len)) is_r ∙ ap (option_and_then (read_items (rd i from_events) len)) cut
+            ∙ ap₂ (λ b o. cond b (option_map list o) None) long all_read,
+        alikes,
       )
-  struct_step s other at fine sep vs d r is deep e comes =
-      absurd (no_object g.registry vs d (object_at g.registry s) (ap (option_and_then object_of) (base_is g.registry s other at (opaque_here g.registry s other sep at))) e)
+
+  list_step : (i : ℕ) → Separable g.registry i → (v : Tree) (d : Document) (r : Run) → depth_by g.registry (Some (list_shape i)) v ≤ suc n → write_by g.registry (Some (list_shape i)) v ≡ Ok d → Comes d r
+      → ReadBy g.registry (list_shape i) v (read_sequence (read_items (rd i from_events) None) r)
+  list_step i sep (list vs) d r deep e comes =
+      let (ws, whole, alikes) = items_back i None sep vs d r (omega (arith, deep)) e comes in
+      (list ws, whole, (ws, refl, alikes))
+  list_step i sep _ d r deep e comes = absurd cc
+
+  array_step : (i m : ℕ) → Separable g.registry i → (v : Tree) (d : Document) (r : Run) → depth_by g.registry (Some (array_shape i m)) v ≤ suc n → write_by g.registry (Some (array_shape i m)) v ≡ Ok d
+      → Comes d r → ReadBy g.registry (array_shape i m) v (read_sequence (read_items (rd i from_events) (Some m)) r)
+  array_step i m sep (list vs) d r deep e comes =
+      let (ws, whole, alikes) = items_back i (Some m) sep vs d r (omega (arith, deep)) e comes in
+      (list ws, whole, (ws, refl, alikes))
+  array_step i m sep _ d r deep e comes = absurd cc
+
+  elements_back : (fs : List Field) → Every (λ f. Separable g.registry f.shape) fs → (vs : Trees) (ds : Documents) (rs : List Run) → deepest_field g.registry fs vs ≤ n
+      → write_items g.registry fs vs ≡ Ok ds → EachComes ds rs → FieldsReadAs g.registry fs vs (read_elements g.registry rd fs rs)
+  elements_back [] sep no_trees ds rs deep e each =
+      let is : no_documents ≡ ds = cc in
+      let ended : rs ≡ [] = subst (λ q. EachComes q rs) (sym is) each in
+      (no_trees, ap (read_elements g.registry rd []) ended, refl)
+  elements_back [] sep (tree v vs) ds rs deep e each = absurd cc
+  elements_back (f ∷ fs) sep no_trees ds rs deep e each = absurd cc
+  elements_back (f ∷ fs) (here, sep) (tree v vs) ds rs deep e each =
+      let (x, xs, is_x, is_xs, is) = document_inverted (write g.registry f.shape v) (write_items g.registry fs vs) ds e in
+      let (r, rest, is_rs, first, others) = subst (λ q. EachComes q rs) is each in
+      let (w, one_read, alike) = parts f.shape here v x r (omega (arith, deep)) is_x first in
+      let (ws, all_read, alikes) = elements_back fs sep vs xs rest (omega (arith, deep)) is_xs others in
+      (tree w ws, ap (read_elements g.registry rd (f ∷ fs)) is_rs ∙ ap₂ and_trees one_read all_read, (w, ws, refl, alike, alikes))
+
+  tuple_back : (q : StructShape) → Every (λ f. Separable g.registry f.shape) q.fields → (vs : Trees) (d : Document) (r : Run) → deepest_field g.registry q.fields vs ≤ n
+      → written_sequence (write_items g.registry q.fields vs) ≡ Ok d → Comes d r
+      → (ws : Trees) × (read_tuple g.registry rd q r ≡ Some (structure ws)) × FieldsAlike g.registry q.fields vs ws
+  tuple_back q sep vs d r deep e comes =
+      let (ds, is_ds, is) = sequence_inverted (write_items g.registry q.fields vs) d e in
+      let (note, inside, rs, is_r, cut, each) = comes_sequence ds r (subst (λ x. Comes x r) (sym is) comes) in
+      let (ws, all_read, alikes) = elements_back q.fields sep vs ds rs deep is_ds each in (
+        ws,
+        ap (read_tuple g.registry rd q) is_r ∙ ap (λ o. option_map structure (option_and_then (read_elements g.registry rd q.fields) o)) cut ∙ ap (option_map structure) all_read,
+        alikes,
+      )
+
+  fields_read : (fs : List Field) (vs : Trees) → Every (λ f. Separable g.registry f.shape) fs → deepest_field g.registry fs vs ≤ n → FieldsRead g.registry rd fs vs
+  fields_read [] vs sep deep = tt
+  fields_read (f ∷ fs) no_trees sep deep = tt
+  fields_read (f ∷ fs) (tree v vs) (here, sep) deep = ((λ d r e comes. parts f.shape here v d r (omega (arith, deep)) e comes), fields_read fs vs sep (omega (arith, deep)))
+
+  object_back : (q : StructShape) → Every BuiltField q.fields → ((c : Choice) → Distinct (keys g.registry (plain_layout q) c)) → Every (λ f. Separable g.registry f.shape) q.fields
+      → (vs : Trees) (d : Document) (r : Run) → deepest_field g.registry q.fields vs ≤ n → written_object (write_fields g.registry q.fields vs) ≡ Ok d → Comes d r
+      → (ws : Trees) × (read_object (read_struct g.registry rd [] q.deny (plain_layout q)) r ≡ Some (structure ws)) × FieldsAlike g.registry q.fields vs ws
+  object_back q fields distinct sep vs d r deep e comes =
+      let (ms, is_ms, is) = object_inverted (write_fields g.registry q.fields vs) d e in
+      let (note, inside, es, is_r, cut, order) = comes_object ms r (subst (λ x. Comes x r) (sym is) comes) in
+      let (ws, all_read, alikes) = struct_read g.registry rd [] q.deny (plain_layout q) vs ms es (distinct []) (own_fields q.fields fields) (fields_read q.fields vs sep deep) is_ms order in (
+        ws,
+        ap (read_object (read_struct g.registry rd [] q.deny (plain_layout q))) is_r ∙ ap (option_and_then (read_struct g.registry rd [] q.deny (plain_layout q))) cut ∙ all_read,
+        alikes,
+      )
+
+  -- a struct that is a tuple, or none
+  struct_back : (q : StructShape) (b : Bool) → is_tuple q.kind ≡ b → Every BuiltField q.fields → HasNoClash g.registry (struct_shape q) → Every (λ f. Separable g.registry f.shape) q.fields
+      → (vs : Trees) (d : Document) (r : Run) → deepest_field g.registry q.fields vs ≤ n
+      → cond b (written_sequence (write_items g.registry q.fields vs)) (written_object (write_fields g.registry q.fields vs)) ≡ Ok d → Comes d r
+      → (ws : Trees) × (cond b (read_tuple g.registry rd q r) (read_object (read_struct g.registry rd [] q.deny (plain_layout q)) r) ≡ Some (structure ws)) × FieldsAlike g.registry q.fields vs ws
+  struct_back q true kind fields apart sep vs d r deep e comes = tuple_back q sep vs d r deep e comes
+  struct_back q false kind fields apart sep vs d r deep e comes = object_back q fields (apart kind) sep vs d r deep e comes
+
+  struct_step : (q : StructShape) → Every BuiltField q.fields → HasNoClash g.registry (struct_shape q) → Every (λ f. Separable g.registry f.shape) q.fields → (v : Tree) (d : Document) (r : Run)
+      → depth_by g.registry (Some (struct_shape q)) v ≤ suc n → write_by g.registry (Some (struct_shape q)) v ≡ Ok d → Comes d r
+      → ReadBy g.registry (struct_shape q) v (cond (is_tuple q.kind) (read_tuple g.registry rd q r) (read_object (read_struct g.registry rd [] q.deny (plain_layout q)) r))
+  struct_step q fields apart sep (structure vs) d r deep e comes =
+      let (ws, whole, alikes) = struct_back q (is_tuple q.kind) refl fields apart sep vs d r (omega (arith, deep)) e comes in
+      (structure ws, whole, (ws, refl, alikes))
+  struct_step q fields apart sep _ d r deep e comes = absurd cc
 
   -- one step: where the parts are read back, so is the whole
-  pub step : (s : ℕ) (def : Definition) → definition_at g.registry s ≡ Some def → is_unbuilt def ≡ false → Separable g.registry s → (v : Tree) (d : Document) (r : Run)
-      → typed g.registry s v ≡ true → depth g.registry s v ≤ suc n → write g.registry s v ≡ Ok d → Comes d r
-      → ReadAs g.registry s v (read_as g rd from_events def r)
-  step s def at fine sep (unsigned m) d r is deep e comes = number_step s def at (opaque_here g.registry s def sep at) m d r e comes
-  step s def at fine sep (structure vs) d r is deep e comes = struct_step s def at fine sep vs d r is deep e comes
-  step s def at fine sep _ d r is deep e comes = absurd cc
+  step : (s : ℕ) (def : Definition) → is_opaque def ≡ true → is_unbuilt def ≡ false → HasNoClash g.registry def → PartsSeparable g.registry def → (v : Tree) (d : Document) (r : Run)
+      → depth_by g.registry (Some def) v ≤ suc n → write_by g.registry (Some def) v ≡ Ok d → Comes d r → ReadBy g.registry def v (read_as g rd s from_events def r)
+  step s (scalar_shape t) opaque fine apart sep v d r deep e comes = scalar_step s t apart v d r e comes
+  step s (option_shape i) opaque fine apart sep v d r deep e comes = option_step i apart (sep i (first_part i [])) v d r deep e comes
+  step s (result_shape i j) opaque fine apart sep v d r deep e comes = result_step i j (sep i (first_part i (j ∷ []))) (sep j (later_part i (j ∷ []) j (first_part j []))) v d r deep e comes
+  step s (list_shape i) opaque fine apart sep v d r deep e comes = list_step i (sep i (first_part i [])) v d r deep e comes
+  step s (array_shape i m) opaque fine apart sep v d r deep e comes = array_step i m (sep i (first_part i [])) v d r deep e comes
+  step s (struct_shape q) opaque fine apart sep v d r deep e comes = struct_step q (struct_built q fine).fields apart (each_separable g.registry q.fields sep) v d r deep e comes
+  step s _ opaque fine apart sep v d r deep e comes = absurd cc
 
-  none_step : (s : ℕ) → definition_at g.registry s ≡ None → (v : Tree) (d : Document) → write g.registry s v ≡ Ok d → ⊥
-  none_step s at (unsigned m) d e = no_scalar m d (scalar_at g.registry s) (ap (option_and_then scalar_of) (no_base g.registry s at)) e
-  none_step s at (structure vs) d e = no_object g.registry vs d (object_at g.registry s) (ap (option_and_then object_of) (no_base g.registry s at)) e
-  none_step s at _ d e = cc
+  opaque_step : (s : ℕ) (def : Definition) → definition_at g.registry s ≡ Some def → is_opaque def ≡ true → Separable g.registry s → (v : Tree) (d : Document) (r : Run)
+      → depth g.registry s v ≤ suc n → write g.registry s v ≡ Ok d → Comes d r → ReadAs g.registry s v (read_as g rd s from_events def r)
+  opaque_step s def at opaque sep v d r deep e comes =
+      let (w, whole, alike) = step s def opaque (built g.registry checked s def at) (here_apart g.registry s def sep at) (parts_separable g.registry s def sep at) v d r
+      (subst (λ m. m ≤ suc n) (depth_here g.registry s def at opaque v) deep) (sym (write_here g.registry s def at opaque v) ∙ e) comes in
+      (w, whole, alike_here g.registry s def at opaque v w alike)
 
-  pub found_step : (s : ℕ) (o : Option Definition) → definition_at g.registry s ≡ o → Separable g.registry s → (v : Tree) (d : Document) (r : Run)
-      → typed g.registry s v ≡ true → depth g.registry s v ≤ suc n → write g.registry s v ≡ Ok d → Comes d r
-      → ReadAs g.registry s v (read_shape g rd from_events r o)
-  found_step s None at sep v d r is deep e comes = absurd (none_step s at v d e)
-  found_step s (Some def) at sep v d r is deep e comes = step s def at (built g.registry checked s def at) sep v d r is deep e comes
-
-positive : (g : Registry) (s : ℕ) (v : Tree) → depth g s v ≤ 0 → ⊥
-positive g s (some v) deep = absurd (omega arith)
-positive g s (list vs) deep = absurd (omega arith)
-positive g s (structure vs) deep = absurd (omega arith)
-positive g s _ deep = absurd (omega arith)
+  -- a transparent shape is read as its inner one
+  found_step : (s : ℕ) (o : Option Definition) → definition_at g.registry s ≡ o → Separable g.registry s → (v : Tree) (d : Document) (r : Run)
+      → depth g.registry s v ≤ suc n → write g.registry s v ≡ Ok d → Comes d r → ReadAs g.registry s v (read_shape g rd s from_events r o)
+  found_step s None at sep v d r deep e comes =
+      absurd (none_written g.registry v d (sym (write_is g.registry s v ∙ ap (λ o. write_by g.registry o v) (no_base g.registry s at)) ∙ e))
+  found_step s (Some (transparent_shape i)) at sep v d r deep e comes =
+      let inner : suc (depth g.registry i v) ≤ suc n = subst (λ m. m ≤ suc n) (depth_inner g.registry checked s i at v) deep in
+      let (w, whole, alike) = parts i (parts_separable g.registry s (transparent_shape i) sep at i (first_part i [])) v d r (omega (arith, inner)) (sym (write_inner g.registry checked s i at v) ∙ e) comes in
+      (w, whole, alike_inner g.registry checked s i at v w alike)
+  found_step s (Some def) at sep v d r deep e comes = opaque_step s def at refl sep v d r deep e comes
 
 pub law : (g : Setting) → IsRegistry g.registry → (n s : ℕ) → Separable g.registry s → (v : Tree) (d : Document) (r : Run)
-    → typed g.registry s v ≡ true → depth g.registry s v ≤ n → write g.registry s v ≡ Ok d → Comes d r → ReadAs g.registry s v (read g n s from_events r)
-law g checked zero s sep v d r is deep e comes = absurd (positive g.registry s v deep)
-law g checked (suc n) s sep v d r is deep e comes =
-    found_step g checked n (read g n) (law g checked n) s (definition_at g.registry s) refl sep v d r is deep e comes
-
-on_part : {A : Type 0} (o : Option A) (P : A → Type 0) → OnPart o P → (x : A) × (o ≡ Some x) × P x
-on_part None P h = absurd h
-on_part (Some x) P h = (x, refl, h)
-
--- alike values are written alike
-mutual
-  pub write_alike : (g : Registry) (s : ℕ) (v w : Tree) → Alike g s v w → write g s w ≡ write g s v
-  write_alike g s (text t) w (u, is, same) = ap (write g s) is
-  write_alike g s (some v) w alike =
-      let (i, at, (w', is, same)) = on_part (option_at g s) (λ i. (w' : Tree) × (w ≡ some w') × Alike g i v w') alike in
-      ap (write g s) is
-  write_alike g s (ok v) w alike =
-      let (i, at, (w', is, same)) = on_part (ok_at g s) (λ i. (w' : Tree) × (w ≡ ok w') × Alike g i v w') alike in
-      ap (write g s) is
-  write_alike g s (err v) w alike =
-      let (i, at, (w', is, same)) = on_part (err_at g s) (λ i. (w' : Tree) × (w ≡ err w') × Alike g i v w') alike in
-      ap (write g s) is
-  write_alike g s (list vs) w alike =
-      let (i, at, (ws, is, same)) = on_part (item_at g s) (λ i. (ws : Trees) × (w ≡ list ws) × EachAlike g i vs ws) alike in
-      ap (write g s) is
-  write_alike g s (structure vs) w alike =
-      let (q, at, (ws, is, same)) = on_part (object_at g s) (λ d. (ws : Trees) × (w ≡ structure ws) × FieldsAlike g d.fields vs ws) alike in
-      ap (write g s) is ∙ ap (λ o. of_form o (λ d. on_ok (write_fields g d.fields ws) (λ ms. Ok (object ms)))) at
-      ∙ ap (λ l. on_ok l (λ ms. Ok (object ms))) (fields_write_alike g q.fields vs ws same)
-      ∙ sym (ap (λ o. of_form o (λ d. on_ok (write_fields g d.fields vs) (λ ms. Ok (object ms)))) at)
-  write_alike g s _ w is = ap (write g s) is
-
-  fields_write_alike : (g : Registry) (fs : List Field) (vs ws : Trees) → FieldsAlike g fs vs ws → write_fields g fs ws ≡ write_fields g fs vs
-  fields_write_alike g (f ∷ fs) (tree v vs) ws (w, ws', is, alike, alikes) =
-      ap (write_fields g (f ∷ fs)) is ∙ ap₂ (put_member (effective_name f)) (write_alike g f.shape v w alike) (fields_write_alike g fs vs ws' alikes)
-  fields_write_alike g fs vs ws is = ap (write_fields g fs) is
+    → depth g.registry s v ≤ n → write g.registry s v ≡ Ok d → Comes d r → ReadAs g.registry s v (read g n s from_events r)
+law g checked zero s sep v d r deep e comes =
+    let some_depth = positive g.registry (base g.registry s) v in
+    absurd (omega (arith, some_depth, deep, depth_is g.registry s v))
+law g checked (suc n) s sep v d r deep e comes =
+    found_step g checked n (read g n) (law g checked n) s (definition_at g.registry s) refl sep v d r deep e comes

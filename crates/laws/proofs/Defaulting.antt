@@ -1,43 +1,17 @@
 -- The default of a shape is of that shape.
 use Rattle.std.proofs.Common.{◌≡◌, ℕ, Option, Some, None, true, false, ◌&&◌, option_and_then, refl, sym, ap, ◌∙◌}
-use Rattle.std.specs.Prelude.{pos}
 use Rattle.semantics.specs.Trees.{Tree, none, list, no_trees}
-use Rattle.semantics.specs.Shapes.{Width, bits8, bits16, bits32, bits64, bits128, address, ScalarType, unit_type, bool_type, char_type, unsigned_type, signed_type, string_type, str_type, Definition, scalar_shape, option_shape, list_shape, struct_shape, Registry}
-use Rattle.semantics.specs.Scalars.{fits_unsigned, fits_signed}
+use Rattle.semantics.specs.Shapes.{Definition, scalar_shape, option_shape, list_shape, struct_shape, Registry}
 use Rattle.semantics.specs.Registry.{is_unbuilt, IsRegistry}
-use Rattle.semantics.specs.Typed.{on_some, base, scalar_of, option_of, item_of, length_of, takes_unit, takes_bool, takes_char, takes_unsigned, takes_signed, takes_text, has_length, typed}
+use Rattle.semantics.specs.Typed.{on_some, base, option_of, item_of, length_of, has_length, typed}
 use Rattle.semantics.specs.Defaults.{scalar_default, default_of}
 use Rattle.laws.proofs.Built.{built, base_defined, struct_declares_none}
-
-zero_fits : (w : Width) → fits_unsigned w 0 ≡ true
-zero_fits bits8 = refl
-zero_fits bits16 = refl
-zero_fits bits32 = refl
-zero_fits bits64 = refl
-zero_fits bits128 = refl
-zero_fits address = refl
-
-signed_zero_fits : (w : Width) → fits_signed w (pos 0) ≡ true
-signed_zero_fits bits8 = refl
-signed_zero_fits bits16 = refl
-signed_zero_fits bits32 = refl
-signed_zero_fits bits64 = refl
-signed_zero_fits bits128 = refl
-signed_zero_fits address = refl
-
-scalar_typed : (g : Registry) (s : ℕ) (t : ScalarType) → base g s ≡ Some (scalar_shape t) → typed g s (scalar_default t) ≡ true
-scalar_typed g s unit_type is = ap (λ o. on_some (option_and_then scalar_of o) takes_unit) is
-scalar_typed g s bool_type is = ap (λ o. on_some (option_and_then scalar_of o) takes_bool) is
-scalar_typed g s char_type is = ap (λ o. on_some (option_and_then scalar_of o) takes_char) is
-scalar_typed g s (unsigned_type w) is = ap (λ o. on_some (option_and_then scalar_of o) (takes_unsigned 0)) is ∙ zero_fits w
-scalar_typed g s (signed_type w) is = ap (λ o. on_some (option_and_then scalar_of o) (takes_signed (pos 0))) is ∙ signed_zero_fits w
-scalar_typed g s string_type is = ap (λ o. on_some (option_and_then scalar_of o) takes_text) is
-scalar_typed g s str_type is = ap (λ o. on_some (option_and_then scalar_of o) takes_text) is
+use Rattle.laws.proofs.ScalarTypes.{default_taken, taken_typed}
 
 definition_typed : (g : Registry) (s : ℕ) (d : Definition) (v : Tree) → base g s ≡ Some d → is_unbuilt d ≡ false → default_of d ≡ Some v → typed g s v ≡ true
 definition_typed g s (scalar_shape t) v is fine e =
     let value : scalar_default t ≡ v = cc in
-    ap (typed g s) (sym value) ∙ scalar_typed g s t is
+    ap (typed g s) (sym value) ∙ taken_typed g s t is (scalar_default t) (default_taken t)
 definition_typed g s (option_shape t) v is fine e =
     let value : none ≡ v = cc in
     ap (typed g s) (sym value) ∙ ap (λ o. on_some (option_and_then option_of o) (λ i. true)) is

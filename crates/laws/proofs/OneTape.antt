@@ -4,7 +4,7 @@ use Rattle.std.proofs.lemmas.Bool.Decides.{nat_tests}
 use Rattle.semantics.specs.Events.{Span, Note, named, nameless, ordered, Key, scalar, key, tag, Event, leaf, start, stop, span_of, unplaced}
 use Rattle.semantics.specs.Lines.{line_of}
 use Rattle.semantics.specs.Tapes.{line_span, IsTapeFrom, IsTape, has_no_end}
-use Rattle.laws.proofs.Typing.{is_both}
+use Rattle.laws.proofs.Tests.{is_both}
 use Rattle.laws.proofs.LineEnds.{line_no_end}
 use Rattle.laws.proofs.LineLaws.{one_content}
 use Rattle.laws.proofs.Texts.{same_event}

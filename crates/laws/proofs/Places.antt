@@ -4,10 +4,11 @@ use Rattle.std.specs.List.{cons_option, AllByRecursion as Every}
 use Rattle.semantics.specs.Trees.{Trees, no_trees, tree}
 use Rattle.semantics.specs.Shapes.{Field, effective_name, Registry, definition_at}
 use Rattle.semantics.specs.Documents.{free, Document, Members, no_members, member, Member, member_list}
-use Rattle.semantics.specs.Writing.{Written, put_member, write, write_fields}
+use Rattle.semantics.specs.Writing.{Written, write, write_fields}
 use Rattle.semantics.specs.Places.{Path, At, below, under, Choice}
 use Rattle.semantics.specs.Keys.{Declared, own_keys, InnerKeys, field_keys, keys_by, path_of, or_path, Plan}
 use Rattle.laws.proofs.Keys.{Has, has_left, has_right}
+use Rattle.laws.proofs.Writes.{put_inverted}
 
 abbrev pub PlacedDocument : Type 0
 PlacedDocument = At Document
@@ -37,12 +38,6 @@ own_document k (Err e) = []
 abbrev pub fields_places : Registry → ℕ → List Field → Trees → List PlacedDocument
 fields_places g k (f ∷ fs) (tree v vs) = own_document k (write g f.shape v) ++ fields_places g (suc k) fs vs
 fields_places g k _ _ = []
-
-pub put_inverted : (name : List ℕ) (d : Written Document) (o : Written Members) (ms : Members) → put_member name d o ≡ Ok ms
-    → (x : Document) × (ns : Members) × (d ≡ Ok x) × (o ≡ Ok ns) × (ms ≡ member free name x ns)
-put_inverted name (Err e) o ms is = absurd cc
-put_inverted name (Ok x) (Err e) ms is = absurd cc
-put_inverted name (Ok x) (Ok ns) ms is = (x, ns, refl, refl, cc)
 
 -- no field is flattened yet
 abbrev pub IsOwn : Field → Type 0

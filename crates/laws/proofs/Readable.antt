@@ -15,7 +15,7 @@ use Rattle.laws.proofs.OneTape.{one_tape}
 
 pub readable : (g : Registry) → IsRegistry g → (root budget : ℕ) (input : List ℕ) (value : Tree) (document : Document) → IsValid g root budget input value document → IsReadable g root budget input document
 readable g checked root budget input value document valid =
-    let (events, taped, listed) = form_taped valid.permuted (permuted_fits document valid.permuted valid.order (written_fits g checked root value document valid.written)) in
+    let (events, taped, listed) = form_taped valid.permuted (permuted_fits document valid.permuted valid.order (written_fits g checked root value document valid.utf8 valid.written)) in
     let (w, reads, alike, same) = read_back (tape_setting g) root budget events value (record {
       checked = checked;
       separable = valid.separable;

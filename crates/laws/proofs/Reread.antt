@@ -10,7 +10,8 @@ use Rattle.semantics.specs.Reading.{Setting, Source, from_events, read, Reads}
 use Rattle.laws.specs.Laws.{Valid, ReadsBack}
 use Rattle.laws.proofs.Whole.{unique}
 use Rattle.laws.proofs.Spelled.{shown}
-use Rattle.laws.proofs.Canonical.{law, write_alike}
+use Rattle.laws.proofs.Canonical.{law}
+use Rattle.laws.proofs.Rewritten.{write_alike}
 
 none_left : (es : List Event) → map unplaced es ≡ [] → es ≡ []
 none_left [] e = e
@@ -19,7 +20,7 @@ none_left (x ∷ es) e = absurd cc
 pub read_back : (g : Setting) (root budget : ℕ) (input : List Event) (v : Tree) → Valid g root budget input v → ReadsBack g root budget input v
 read_back g root budget input v valid =
     let (run, rest, is, none, shows) = shown valid.permuted input [] (valid.listed ∙ sym (append-nil (document_events valid.permuted))) in
-    let (w, found, alike) = law g valid.checked budget root valid.separable v valid.document run valid.of_root valid.deep valid.written (valid.permuted, valid.order, shows) in (
+    let (w, found, alike) = law g valid.checked budget root valid.separable v valid.document run valid.deep valid.written (valid.permuted, valid.order, shows) in (
       w,
       record { run = run; cut = is ∙ ap (λ l. run_events run ++ l) (none_left rest none) ∙ append-nil (run_events run); is = found },
       alike,

@@ -1,5 +1,5 @@
 -- The documents of the fields, in any order, are read back as the fields.
-use Rattle.std.proofs.Common.{◌≡◌, ℕ, suc, ◌<◌, ◌≤◌, List, [], ◌∷◌, ◌++◌, map, length, Option, Some, None, Bool, true, false, cond, not, ◌&&◌, ◌==◌, Ok, Err, option_map, filter_map, is_some, refl, sym, ap, ap₂, ◌∙◌, subst, arith, eq-eqb}
+use Rattle.std.proofs.Common.{◌≡◌, ℕ, suc, ◌<◌, ◌≤◌, List, [], ◌∷◌, ◌++◌, map, length, Option, Some, None, Bool, true, false, cond, not, ◌&&◌, ◌||◌, ◌==◌, Ok, Err, option_map, filter_map, is_some, refl, sym, ap, ap₂, ◌∙◌, subst, arith, eq-eqb}
 use Rattle.std.proofs.lemmas.Bool.{ne_eqb}
 use Rattle.std.proofs.lemmas.List.{append-nil}
 use Rattle.std.proofs.lemmas.List.Elements.{filter_map-append}
@@ -17,7 +17,8 @@ use Rattle.semantics.specs.Validity.{Distinct, Alike, FieldsAlike}
 use Rattle.laws.proofs.Mixes.{Mixes, Agrees, mixes_filter, mixes_one, mixes_every}
 use Rattle.laws.proofs.Orders.{Comes, Carried}
 use Rattle.laws.proofs.Keys.{first_found}
-use Rattle.laws.proofs.Places.{PlacedDocument, with_document, name_leads, place_member, IsDeclared, prefixed, own_document, fields_places, put_inverted, IsOwn, fields_placed}
+use Rattle.laws.proofs.Writes.{put_inverted}
+use Rattle.laws.proofs.Places.{PlacedDocument, with_document, name_leads, place_member, IsDeclared, prefixed, own_document, fields_places, IsOwn, fields_placed}
 
 -- such a value was read
 abbrev pub ReadAs : Registry → ℕ → Tree → Option Tree → Type 0
@@ -62,7 +63,7 @@ later g (f ∷ fs) (tree v vs) k i less =
     filter_map-append (rest_at i) (own_document k (write g f.shape v)) (fields_places g (suc k) fs vs)
     ∙ ap₂ (λ a b. a ++ b) (own_other k i (write g f.shape v) (λ same. omega arith)) (later g fs vs (suc k) i (omega arith))
 
-both_read : (g : Registry) (f : Field) (fs : List Field) (v : Tree) (vs : Trees) (o : Option Tree) (os : Option Trees)
+pub both_read : (g : Registry) (f : Field) (fs : List Field) (v : Tree) (vs : Trees) (o : Option Tree) (os : Option Trees)
     → ReadAs g f.shape v o → FieldsReadAs g fs vs os → FieldsReadAs g (f ∷ fs) (tree v vs) (and_trees o os)
 both_read g f fs v vs o os (w, e, alike) (ws, e', alikes) = (tree w ws, ap₂ and_trees e e', (w, ws, refl, alike, alikes))
 
@@ -142,7 +143,7 @@ module _ (plan : Plan) where
   allowed k [] all = refl
   allowed k (e ∷ es) ((t, n, is, found), all) =
       ap (λ q. is_allowed plan k q && are_allowed plan (after_key k q) es) is
-      ∙ and_true (is_some (name_leads plan t)) (are_allowed plan k es) found (allowed k es all)
+      ∙ and_true (is_some (name_leads plan t) || not plan.deny) (are_allowed plan k es) (ap (λ b. b || not plan.deny) found) (allowed k es all)
 
 -- with nothing in front
 none_prefixed : (l : List PlacedDocument) → map (prefixed []) l ≡ l

@@ -113,5 +113,5 @@ pub record Example : Type 0 where
   pub other_order : read setting 2 point from_events (an_object (entry y 2 (entry x 1 (close no_note)))) ≡ Some value
   pub repeated_key : read setting 2 point from_events (an_object (entry x 1 (entry y 2 (entry x 1 (close no_note))))) ≡ None
   pub missing_field : read setting 2 point from_events (an_object (entry x 1 (close no_note))) ≡ None
-  pub unknown_key : read setting 2 point from_events (an_object (entry x 1 (entry y 2 (entry (codes "z") 3 (close no_note))))) ≡ None
+  pub unknown_key : read setting 2 point from_events (an_object (entry x 1 (entry y 2 (entry (codes "z") 3 (close no_note))))) ≡ Some value
   pub too_deep : read setting 1 point from_events (an_object (entry x 1 (entry y 2 (close no_note)))) ≡ None

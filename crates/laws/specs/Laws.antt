@@ -81,10 +81,11 @@ OneOutput = (g : Setting) (root budget : ℕ) (input other : List Event) (value 
     → Valid g root budget input value → Valid g root budget other value
     → Reads g budget root from_events input v → Reads g budget root from_events other w → write g.registry root v ≡ write g.registry root w
 
--- The tape of what a value is written as, in any order of entries, is the tape of events, and these are its events.
+-- The tape of what a value is written as, in any order of entries, is the tape of events, and these are its events. Its
+-- texts and characters have to be such.
 abbrev pub FormsAreTapes : Type 0
 FormsAreTapes = (g : Registry) → IsRegistry g → (root : ℕ) (value : Tree) (document permuted : Document)
-    → write g root value ≡ Ok document → Permuted document permuted
+    → IsTrue (tree_is_utf8 value) → write g root value ≡ Ok document → Permuted document permuted
     → (events : List Event) × IsTape events (document_tape permuted) × (map unplaced events ≡ document_events permuted)
 
 -- A valid tape is read as a value that has the document of the tape's value.

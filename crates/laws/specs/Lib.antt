@@ -1,3 +1,4 @@
 pub mod Laws
 pub mod Example
+pub mod FormsExample
 pub mod ShapeLineReading

@@ -23,6 +23,7 @@ ghost use Rattle.laws.specs.Laws.{
   ValidIsReadable,
 };
 ghost use Rattle.laws.specs.Example.{Example};
+ghost use Rattle.laws.specs.FormsExample.{FormsExample};
 
 /// At most one whole run begins a list of events.
 pub fn one_run()
@@ -42,6 +43,11 @@ pub fn one_tape()
 /// What the definitions say of a struct of two numbers.
 pub fn example()
     ensures { Example }
+{}
+
+/// What the definitions say of a small value of each form.
+pub fn forms_example()
+    ensures { FormsExample }
 {}
 
 /// Events are read as at most one value.

@@ -1,5 +1,5 @@
 -- The keys that the object of a struct may have, and where each leads.
-use Rattle.std.specs.Prelude.{ℕ, zero, suc, List, [], ◌∷◌, ◌++◌, map, Bool, true, false, cond, ◌&&◌, length, Option, Some, None, option_map, bytes_eq, is_some}
+use Rattle.std.specs.Prelude.{ℕ, zero, suc, List, [], ◌∷◌, ◌++◌, map, Bool, true, false, cond, ◌&&◌, ◌||◌, not, length, Option, Some, None, option_map, bytes_eq, is_some}
 use Rattle.std.specs.List.{cons_option}
 use Rattle.semantics.specs.Shapes.{Field, effective_name, Definition, Registry, definition_at}
 use Rattle.semantics.specs.Events.{Key, named, nameless, ordered}
@@ -97,10 +97,11 @@ abbrev pub placed : Plan → ℕ → List Entry → List Placed
 placed plan k [] = []
 placed plan k (e ∷ es) = cons_option (with_entry e (leads plan k e.key)) (placed plan (after_key k e.key) es)
 
--- A named key has to lead somewhere. Other keys aren't built yet, nor is the skipping of unknown ones.
+-- A named key that leads nowhere is allowed where unknown keys aren't refused, and a key without a name is always. That
+-- keys name their fields by their order isn't built yet.
 abbrev pub is_allowed : Plan → ℕ → Key → Bool
-is_allowed plan k (named t m n) = is_some (leads plan k (named t m n))
-is_allowed plan k (nameless m n) = false
+is_allowed plan k (named t m n) = is_some (leads plan k (named t m n)) || not plan.deny
+is_allowed plan k (nameless m n) = true
 is_allowed plan k (ordered n) = false
 
 abbrev pub are_allowed : Plan → ℕ → List Entry → Bool

@@ -1,11 +1,14 @@
 -- What a run is read as.
-use Rattle.std.specs.Prelude.{◌≡◌, ℕ, zero, suc, List, [], ◌∷◌, Bool, false, cond, ◌&&◌, not, length, Option, Some, None, option_map, option_and_then}
-use Rattle.semantics.specs.Trees.{Tree, unsigned, none, structure, Trees, no_trees, tree}
-use Rattle.semantics.specs.Shapes.{bits64, ScalarType, is_named, Field, StructShape, Definition, scalar_shape, option_shape, struct_shape, Registry, definition_at}
-use Rattle.semantics.specs.Scalars.{fits_unsigned}
-use Rattle.semantics.specs.Events.{Metadata, Scalar, u64, Key, named, nameless, ordered, of_struct, Event}
-use Rattle.semantics.specs.Runs.{Run, one, group, Entry, entries, run_events}
-use Rattle.semantics.specs.Writing.{is_u64}
+use Rattle.std.specs.Prelude.{◌≡◌, ℕ, zero, suc, List, [], ◌∷◌, Bool, true, false, cond, ◌&&◌, not, length, map, Option, Some, None, option_map, option_and_then, Ok, Err, bytes_eq, codes}
+use Rattle.std.specs.List.{list_all}
+use Rattle.semantics.specs.Trees.{Tree, none, some, ok, err, list, structure, Trees, no_trees, tree}
+use Rattle.semantics.specs.Shapes.{ScalarType, is_tuple, Field, StructShape, Definition, scalar_shape, option_shape, result_shape, list_shape, array_shape, struct_shape, transparent_shape, Registry, definition_at}
+use Rattle.semantics.specs.Events.{Metadata, Scalar, unit, null, Key, named, nameless, ordered, of_struct, of_sequence, object_kind, array_kind, Event}
+use Rattle.semantics.specs.Runs.{Run, one, group, tagged, Entry, entries, items, run_events}
+use Rattle.semantics.specs.Registry.{has_some}
+use Rattle.semantics.specs.Typed.{has_length}
+use Rattle.semantics.specs.Numerals.{only}
+use Rattle.semantics.specs.Setters.{Outcome, set_scalar}
 use Rattle.semantics.specs.Places.{At, below, has_whole, Choice}
 use Rattle.semantics.specs.Keys.{Layout, plan_of, placed, are_allowed}
 
@@ -111,29 +114,124 @@ read_object mean _ = None
 abbrev pub plain_layout : StructShape → Layout
 plain_layout s = record { fields = s.fields; whole = false }
 
--- of the scalars u64 alone is built
-abbrev pub set_scalar : ScalarType → Scalar → Option Tree
-set_scalar t (u64 n) = cond (is_u64 t && fits_unsigned bits64 n) (Some (unsigned n)) None
-set_scalar t _ = None
+-- what an outcome gives, where it gives a value
+abbrev pub value_of : Outcome → Option Tree
+value_of (Ok v) = Some v
+value_of (Err f) = None
 
-abbrev pub read_scalar : ScalarType → Run → Option Tree
-read_scalar t (one s n) = set_scalar t s
-read_scalar t _ = None
+-- what a scalar of an event sets a scalar shape of this number to
+abbrev pub set_to : Bool → ℕ → ScalarType → Scalar → Option Tree
+set_to borrow s t x = value_of (set_scalar borrow s t x)
 
--- One step of reading, where rd reads the parts. Scalars and named structs are built.
-abbrev pub read_as : Setting → Reader → Source → Definition → Run → Option Tree
-read_as g rd source (scalar_shape t) r = read_scalar t r
-read_as g rd source (struct_shape s) r = cond (is_named s.kind) (read_object (read_struct g.registry rd [] s.deny (plain_layout s)) r) None
-read_as g rd source _ r = None
+-- a run of one scalar sets a scalar shape
+abbrev pub set_by : Bool → ℕ → ScalarType → Run → Option Tree
+set_by borrow s t (one x n) = set_to borrow s t x
+set_by borrow s t _ = None
 
-abbrev pub read_shape : Setting → Reader → Source → Run → Option Definition → Option Tree
-read_shape g rd source r None = None
-read_shape g rd source r (Some d) = read_as g rd source d r
+-- the key of a node's argument
+abbrev pub is_argument : Key → Bool
+is_argument (named t m n) = bytes_eq t.bytes (codes "_arg")
+is_argument (nameless m n) = false
+is_argument (ordered n) = false
+
+-- a key, with a name or without one
+abbrev pub is_key : Key → Bool
+is_key (named t m n) = true
+is_key (nameless m n) = true
+is_key (ordered n) = false
+
+-- the runs of a node's arguments
+abbrev pub arguments : List Entry → List Run
+arguments [] = []
+arguments (e ∷ es) = cond (is_argument e.key) (e.run ∷ arguments es) (arguments es)
+
+-- a node: an object of keys alone, whose one argument is a scalar
+abbrev pub read_node : Bool → ℕ → ScalarType → List Entry → Option Tree
+read_node borrow s t es = cond (list_all (λ e. is_key e.key) es) (option_and_then (set_by borrow s t) (only (arguments es))) None
+
+-- a scalar, or a node
+abbrev pub read_scalar : Bool → ℕ → ScalarType → Run → Option Tree
+read_scalar borrow s t (one x n) = set_to borrow s t x
+read_scalar borrow s t (group of_struct k n i) = option_and_then (read_node borrow s t) (entries i)
+read_scalar borrow s t _ = None
+
+-- null or unit, which stand for nothing
+abbrev pub is_nothing : Scalar → Bool
+is_nothing null = true
+is_nothing unit = true
+is_nothing _ = false
+
+abbrev pub holds_nothing : Run → Bool
+holds_nothing (one x n) = is_nothing x
+holds_nothing _ = false
+
+-- an option: null or unit for nothing, and else what it holds
+abbrev pub read_option : (Run → Option Tree) → Run → Option Tree
+read_option rd r = cond (holds_nothing r) (Some none) (option_map some (rd r))
+
+-- a sequence, whose items are read so
+abbrev pub read_sequence : (List Run → Option Tree) → Run → Option Tree
+read_sequence mean (group of_sequence k n i) = option_and_then mean (items i)
+read_sequence mean _ = None
+
+abbrev pub read_each : (Run → Option Tree) → List Run → Option Trees
+read_each rd [] = Some no_trees
+read_each rd (r ∷ rs) = and_trees (rd r) (read_each rd rs)
+
+-- the items of a list, or of an array, which has as many as it says
+abbrev pub read_items : (Run → Option Tree) → Option ℕ → List Run → Option Tree
+read_items rd len rs = cond (has_length len (length rs)) (option_map list (read_each rd rs)) None
+
+-- how a result went, by the text of its key
+abbrev pub by_outcome : {A : Type 0} → Key → A → A → Option A
+by_outcome (named t m n) x y = cond (bytes_eq t.bytes (codes "Ok")) (Some x) (cond (bytes_eq t.bytes (codes "Err")) (Some y) None)
+by_outcome (nameless m n) x y = None
+by_outcome (ordered n) x y = None
+
+-- a result: one entry, under `Ok` or `Err`
+abbrev pub read_outcome : Reader → ℕ → ℕ → Entry → Option Tree
+read_outcome rd s t e = option_and_then (λ o. o) (by_outcome e.key (option_map ok (rd s from_events e.run)) (option_map err (rd t from_events e.run)))
+
+abbrev pub read_result : Reader → ℕ → ℕ → List Entry → Option Tree
+read_result rd s t es = option_and_then (read_outcome rd s t) (only es)
+
+-- the items of a tuple, of which those that are absent at the end have to have a fill
+abbrev pub read_elements : Registry → Reader → List Field → List Run → Option Trees
+read_elements g rd [] [] = Some no_trees
+read_elements g rd [] (r ∷ rs) = None
+read_elements g rd (f ∷ fs) [] = and_trees (fill g f) (read_elements g rd fs [])
+read_elements g rd (f ∷ fs) (r ∷ rs) = and_trees (rd f.shape from_events r) (read_elements g rd fs rs)
+
+abbrev pub entry_runs : List Entry → List Run
+entry_runs es = map (λ e. e.run) es
+
+-- A tuple: a sequence, or an object whose keys are passed over. One without items may also be null or unit.
+abbrev pub read_tuple : Registry → Reader → StructShape → Run → Option Tree
+read_tuple g rd d (group of_sequence k n i) = option_map structure (option_and_then (read_elements g rd d.fields) (items i))
+read_tuple g rd d (group of_struct object_kind n i) = option_map structure (option_and_then (λ es. read_elements g rd d.fields (entry_runs es)) (entries i))
+read_tuple g rd d (group of_struct array_kind n i) = None
+read_tuple g rd d (one x n) = cond (not (has_some d.fields) && is_nothing x) (Some (structure no_trees)) None
+read_tuple g rd d (tagged t n r) = None
+
+-- One step of reading a shape of number s, where rd reads the parts. Sets, maps and enums aren't built yet.
+abbrev pub read_as : Setting → Reader → ℕ → Source → Definition → Run → Option Tree
+read_as g rd s source (scalar_shape t) r = read_scalar g.borrow s t r
+read_as g rd s source (option_shape i) r = read_option (rd i from_events) r
+read_as g rd s source (result_shape i j) r = read_object (read_result rd i j) r
+read_as g rd s source (list_shape i) r = read_sequence (read_items (rd i from_events) None) r
+read_as g rd s source (array_shape i len) r = read_sequence (read_items (rd i from_events) (Some len)) r
+read_as g rd s source (struct_shape d) r = cond (is_tuple d.kind) (read_tuple g.registry rd d r) (read_object (read_struct g.registry rd [] d.deny (plain_layout d)) r)
+read_as g rd s source (transparent_shape i) r = rd i source r
+read_as g rd s source _ r = None
+
+abbrev pub read_shape : Setting → Reader → ℕ → Source → Run → Option Definition → Option Tree
+read_shape g rd s source r None = None
+read_shape g rd s source r (Some d) = read_as g rd s source d r
 
 -- what a run is read as, within a depth
 abbrev pub read : Setting → ℕ → Reader
 read g zero s source r = None
-read g (suc n) s source r = read_shape g (read g n) source r (definition_at g.registry s)
+read g (suc n) s source r = read_shape g (read g n) s source r (definition_at g.registry s)
 
 -- These events are one run, which is read as this value of the shape.
 pub record Reads (g : Setting) (depth shape : ℕ) (source : Source) (events : List Event) (value : Tree) : Type 0 where

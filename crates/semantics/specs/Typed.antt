@@ -1,8 +1,8 @@
 -- Which values are of a shape.
 use Rattle.std.specs.Prelude.{ℕ, zero, suc, ℤ, Bool, true, false, cond, ◌&&◌, ◌==◌, List, [], ◌∷◌, length, Option, Some, None, option_and_then}
-use Rattle.std.specs.Str.{is_utf8}
+use Rattle.std.specs.Str.{is_utf8, all_scalars}
 use Rattle.semantics.specs.Trees.{Tree, unit_value, bool_value, char_value, unsigned, signed, text, none, some, ok, err, list, mapping, structure, variant, Trees, no_trees, tree, tree_count, Pairs, no_pairs, pair}
-use Rattle.semantics.specs.Shapes.{ScalarType, unit_type, bool_type, char_type, unsigned_type, signed_type, string_type, str_type, is_named, Field, StructShape, Definition, scalar_shape, option_shape, result_shape, list_shape, array_shape, struct_shape, transparent_shape, Registry, definition_at}
+use Rattle.semantics.specs.Shapes.{ScalarType, unit_type, bool_type, char_type, unsigned_type, signed_type, string_type, str_type, is_tuple, Field, StructShape, Definition, scalar_shape, option_shape, result_shape, list_shape, array_shape, struct_shape, transparent_shape, Registry, definition_at}
 use Rattle.semantics.specs.Scalars.{fits_unsigned, fits_signed}
 
 -- a test of what an option holds
@@ -58,8 +58,13 @@ struct_of _ = None
 
 -- a struct that is written and read as an object of its fields
 abbrev pub object_of : Definition → Option StructShape
-object_of (struct_shape s) = cond (is_named s.kind) (Some s) None
+object_of (struct_shape s) = cond (is_tuple s.kind) None (Some s)
 object_of _ = None
+
+-- a struct that is written and read as a sequence of its items
+abbrev pub tuple_of : Definition → Option StructShape
+tuple_of (struct_shape s) = cond (is_tuple s.kind) (Some s) None
+tuple_of _ = None
 
 abbrev pub scalar_at : Registry → ℕ → Option ScalarType
 scalar_at g s = option_and_then scalar_of (base g s)
@@ -144,7 +149,7 @@ abbrev mutual
   fields_typed g (f ∷ fs) (tree v vs) = typed g f.shape v && fields_typed g fs vs
   fields_typed g _ _ = false
 
--- the texts of a value are texts, and so UTF-8
+-- the texts of a value are texts, and so UTF-8, and its characters are characters
 abbrev mutual
   pub tree_is_utf8 : Tree → Bool
   tree_is_utf8 (text t) = is_utf8 t.bytes
@@ -157,7 +162,7 @@ abbrev mutual
   tree_is_utf8 (variant i vs) = trees_are_utf8 vs
   tree_is_utf8 unit_value = true
   tree_is_utf8 (bool_value b) = true
-  tree_is_utf8 (char_value c) = true
+  tree_is_utf8 (char_value c) = all_scalars (c ∷ [])
   tree_is_utf8 (unsigned n) = true
   tree_is_utf8 (signed z) = true
   tree_is_utf8 none = true

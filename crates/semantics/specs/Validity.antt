@@ -1,9 +1,9 @@
 -- Which shapes and values are read back as they were written.
-use Rattle.std.specs.Prelude.{◌≡◌, ℕ, List, [], ◌∷◌, Option, Some, None, Contains}
+use Rattle.std.specs.Prelude.{◌≡◌, ℕ, Bool, true, false, List, [], ◌∷◌, Option, Some, None, Contains}
 use Rattle.semantics.specs.Texts.{Phrase}
 use Rattle.semantics.specs.Trees.{Tree, text, some, ok, err, list, structure, Trees, no_trees, tree}
-use Rattle.semantics.specs.Shapes.{str_type, Field, Definition, scalar_shape, option_shape, result_shape, list_shape, array_shape, struct_shape, transparent_shape, Registry, definition_at}
-use Rattle.semantics.specs.Typed.{option_at, ok_at, err_at, item_at, object_at}
+use Rattle.semantics.specs.Shapes.{unit_type, str_type, is_tuple, Field, Definition, scalar_shape, option_shape, result_shape, list_shape, array_shape, struct_shape, transparent_shape, Registry, definition_at}
+use Rattle.semantics.specs.Typed.{option_at, ok_at, err_at, item_at, struct_at, on_some, base}
 use Rattle.semantics.specs.Places.{Choice}
 use Rattle.semantics.specs.Keys.{Declared, path_of, keys}
 use Rattle.semantics.specs.Reading.{plain_layout}
@@ -44,12 +44,18 @@ abbrev pub Distinct : List Declared → Type 0
 Distinct [] = Unit {0}
 Distinct (x ∷ xs) = (path_of xs x.item ≡ None) × Distinct xs
 
--- What a definition has to keep, that its values can be read back: no key twice under any choice of variants, and
--- no text that has to be borrowed. A transparent shape isn't read yet, though its values may have a document.
+-- a value may be written as null
+abbrev pub is_null_form : Definition → Bool
+is_null_form (scalar_shape unit_type) = true
+is_null_form (option_shape s) = true
+is_null_form _ = false
+
+-- What a definition has to keep, that its values can be read back: no key twice under any choice of variants, no option of
+-- what may be written as null itself, and no text that has to be borrowed.
 abbrev pub HasNoClash : Registry → Definition → Type 0
-HasNoClash g (struct_shape s) = (c : Choice) → Distinct (keys g (plain_layout s) c)
+HasNoClash g (struct_shape s) = is_tuple s.kind ≡ false → (c : Choice) → Distinct (keys g (plain_layout s) c)
+HasNoClash g (option_shape s) = on_some (base g s) is_null_form ≡ false
 HasNoClash g (scalar_shape str_type) = ⊥
-HasNoClash g (transparent_shape s) = ⊥
 HasNoClash g _ = Unit {0}
 
 abbrev pub IsApart : Registry → Option Definition → Type 0
@@ -80,7 +86,7 @@ abbrev mutual
   Alike g s (ok v) w = OnPart (ok_at g s) (λ i. (w' : Tree) × (w ≡ ok w') × Alike g i v w')
   Alike g s (err v) w = OnPart (err_at g s) (λ i. (w' : Tree) × (w ≡ err w') × Alike g i v w')
   Alike g s (list vs) w = OnPart (item_at g s) (λ i. (ws : Trees) × (w ≡ list ws) × EachAlike g i vs ws)
-  Alike g s (structure vs) w = OnPart (object_at g s) (λ d. (ws : Trees) × (w ≡ structure ws) × FieldsAlike g d.fields vs ws)
+  Alike g s (structure vs) w = OnPart (struct_at g s) (λ d. (ws : Trees) × (w ≡ structure ws) × FieldsAlike g d.fields vs ws)
   Alike g s v w = w ≡ v
 
   pub EachAlike : Registry → ℕ → Trees → Trees → Type 0

@@ -3,5 +3,5 @@ use Rattle.laws.proofs.Taped.{form_taped}
 use Rattle.laws.proofs.forms_are_tapes.Goals as goal
 
 pub returns : goal.returns
-returns c g checked root value document permuted written order =
-    form_taped permuted (permuted_fits document permuted order (written_fits g checked root value document written))
+returns c g checked root value document permuted texts written order =
+    form_taped permuted (permuted_fits document permuted order (written_fits g checked root value document texts written))

@@ -1,0 +1,176 @@
+-- The reader of structs, and the meaning, in both directions.
+use Rattle.std.proofs.Common.{◌≡◌, ◌⊎◌, inl, inr, ℕ, List, [], ◌∷◌, ◌++◌, Option, Some, None, Result, Ok, Err, Bool, true, false, cond, not, ◌&&◌, option_map, refl, sym, ap, ◌∙◌, subst}
+use Rattle.std.specs.List.{cons_option}
+use Rattle.std.proofs.lemmas.List.{append-nil}
+use Rattle.semantics.specs.Trees.{Tree, structure}
+use Rattle.semantics.specs.Shapes.{Registry}
+use Rattle.semantics.specs.Events.{Span, Key, Event}
+use Rattle.semantics.specs.Faults.{Step, duplicate_field, Fault, Ending}
+use Rattle.semantics.specs.Runs.{Run, run_events, Entry}
+use Rattle.semantics.specs.Places.{Path, At, Choice}
+use Rattle.semantics.specs.Keys.{Layout, plan_of, leads, after_key, with_entry, placed, is_allowed, are_allowed}
+use Rattle.semantics.specs.Reading.{Source, Reader, key_text, source_of, by_run, read_layout, read_struct, read_object}
+use Rattle.semantics.specs.Causes.{last_span}
+use Rattle.laws_reading.specs.Input.{Input, feed, ◌>>=◌, Reads, refused, unexpected}
+use Rattle.laws_reading.specs.Structs.{ReadsPart, Told, Got, nothing_got, End, leaf_at, steps_at, is_taken, taken_span, told_at, got_value, at_end_of, passed_over, at_path, field_at, kept, gathered, struct_at}
+use Rattle.laws_reading.specs.Skips.{skip_at}
+use Rattle.laws_reading.specs.Laws.{Sound, Complete}
+use Rattle.laws_reading.proofs.Steps.{bind_ok, ok_is}
+use Rattle.laws_reading.proofs.Objects.{entry, EntrySound, EntryComplete, Finishes, object_sound, object_complete}
+use Rattle.laws_reading.proofs.Skips.{skip_sound, skip_complete}
+use Rattle.laws_reading.proofs.Ends.{Kept, kept_more, taken_kept, placed_at, Lost}
+use Rattle.laws_reading.proofs.Lost.{layout_lost}
+use Rattle.laws_reading.proofs.Same.{layout_same}
+use Rattle.laws_reading.proofs.Leads.{key_leads}
+use Rattle.laws_reading.proofs.Entries.{after_keys, after_keys_more, placed_among, allowed_more, not_allowed}
+use Rattle.laws_reading.proofs.Gathered.{ok_of, gathered_ok}
+
+module _ (g : Registry) (rd : Reader) (read : ReadsPart) (c : Choice) (deny : Bool) (l : Layout) (shape : ℕ) where
+  -- the entries so far are allowed, and what they lead to was read
+  abbrev pub Keeps : List Entry → Got → Type 0
+  Keeps es s = (are_allowed (plan_of g c deny l) 0 es ≡ true) × (s.count ≡ after_keys 0 es) × Kept (leaf_at g c l) (by_run rd) (placed (plan_of g c deny l) 0 es) s.values
+
+  module _ (es : List Entry) (q : Key) where
+    abbrev n : ℕ
+    n = after_keys 0 es
+
+    abbrev lead : Option Path
+    lead = leads (plan_of g c deny l) (after_keys 0 es) q
+
+    abbrev field_on : ℕ → List (At Told) → Reads Got
+    field_on n got path input = cond (is_allowed (plan_of g c deny l) n q) (at_path (leaf_at g c l) (steps_at g l) (leads (plan_of g c deny l) n q) read q (after_key n q) got path input) (unexpected path input)
+
+    next : (r : Run) (got : List (At Told)) → are_allowed (plan_of g c deny l) 0 es ≡ true → is_allowed (plan_of g c deny l) n q ≡ true → Kept (leaf_at g c l) (by_run rd) (placed (plan_of g c deny l) 0 (es ++ (entry q r ∷ []))) got
+        → Keeps (es ++ (entry q r ∷ [])) (record { count = after_key n q; values = got })
+    next r got all one h = (allowed_more (plan_of g c deny l) 0 es (entry q r) all one, sym (after_keys_more 0 es (entry q r)), h)
+
+    put_in : (r : Run) (got : List (At Told)) (p : Path) (s : End) (v : Tree) → lead ≡ Some p → leaf_at g c l p ≡ Some s → rd s.shape (source_of q) r ≡ Some v → Kept (leaf_at g c l) (by_run rd) (placed (plan_of g c deny l) 0 es) got
+        → Kept (leaf_at g c l) (by_run rd) (placed (plan_of g c deny l) 0 (es ++ (entry q r ∷ []))) (got ++ (told_at p q v ∷ []))
+    put_in r got p s v is end reads h =
+        let same : placed (plan_of g c deny l) 0 (es ++ (entry q r ∷ [])) ≡ placed (plan_of g c deny l) 0 es ++ (placed_at p (entry q r) ∷ []) = placed_among (plan_of g c deny l) 0 es (entry q r) [] ∙ ap (λ o. placed (plan_of g c deny l) 0 es ++ cons_option (with_entry (entry q r) o) []) is in
+        subst (λ xs. Kept (leaf_at g c l) (by_run rd) xs (got ++ (told_at p q v ∷ []))) (sym same)
+        (kept_more (leaf_at g c l) (by_run rd) (placed (plan_of g c deny l) 0 es) got (placed_at p (entry q r)) (told_at p q v) h (s, end, reads, refl, refl))
+
+    -- an entry that leads nowhere changes nothing of what is placed
+    put_nowhere : (r : Run) (got : List (At Told)) → lead ≡ None → Kept (leaf_at g c l) (by_run rd) (placed (plan_of g c deny l) 0 es) got → Kept (leaf_at g c l) (by_run rd) (placed (plan_of g c deny l) 0 (es ++ (entry q r ∷ []))) got
+    put_nowhere r got is h =
+        let same : placed (plan_of g c deny l) 0 (es ++ (entry q r ∷ [])) ≡ placed (plan_of g c deny l) 0 es ++ [] = placed_among (plan_of g c deny l) 0 es (entry q r) [] ∙ ap (λ o. placed (plan_of g c deny l) 0 es ++ cons_option (with_entry (entry q r) o) []) is in
+        subst (λ xs. Kept (leaf_at g c l) (by_run rd) xs got) (sym (same ∙ append-nil (placed (plan_of g c deny l) 0 es))) h
+
+    module _ (got : List (At Told)) (all : are_allowed (plan_of g c deny l) 0 es ≡ true) (h : Kept (leaf_at g c l) (by_run rd) (placed (plan_of g c deny l) 0 es) got) (path : List Step) (ending : Ending) (last : Span) where
+      -- sound
+      module _ (sound : (s : ℕ) (source : Source) → Sound (rd s source) (read s source)) (es' : List Event) (s' : Got) (after : Input) where
+        abbrev Taken : Type 0
+        Taken = (r : Run) × (es' ≡ run_events r ++ after.events) × (after.ending ≡ ending) × (after.last ≡ last_span last (run_events r)) × Keeps (es ++ (entry q r ∷ [])) s'
+
+        sound_value : is_allowed (plan_of g c deny l) n q ≡ true → (p : Path) (s : End) → lead ≡ Some p → leaf_at g c l p ≡ Some s
+            → (read s.shape (source_of q) (path ++ steps_at g l p) (feed es' ending last) >>= got_value (after_key n q) got p q) ≡ Ok (s', after) → Taken
+        sound_value one p s is end e =
+            let (v, told, made) = bind_ok (read s.shape (source_of q) (path ++ steps_at g l p) (feed es' ending last)) (got_value (after_key n q) got p q) (s', after) e in
+            let same = ok_is (record { count = after_key n q; values = got ++ (told_at p q v.0 ∷ []) }, v.1) (s', after) made in
+            let (r, cut, ends, at, reads) = sound s.shape (source_of q) (path ++ steps_at g l p) es' ending last v.0 v.1 told in (
+              r,
+              cut ∙ ap (λ (y : Got × Input). run_events r ++ y.1.events) same,
+              sym (ap (λ (y : Got × Input). y.1.ending) same) ∙ ends,
+              sym (ap (λ (y : Got × Input). y.1.last) same) ∙ at,
+              subst (λ (y : Got × Input). Keeps (es ++ (entry q r ∷ [])) y.0) same (next r (got ++ (told_at p q v.0 ∷ [])) all one (put_in r got p s v.0 is end reads h)),
+            )
+
+        sound_end : is_allowed (plan_of g c deny l) n q ≡ true → (p : Path) (o : Option End) → lead ≡ Some p → leaf_at g c l p ≡ o → at_end_of o (steps_at g l p) read p q (after_key n q) got path (feed es' ending last) ≡ Ok (s', after) → Taken
+        sound_end one p None is end e = absurd cc
+        sound_end one p (Some s) is end e = by_test (not s.many && is_taken p got) e
+          where
+            by_test : (b : Bool)
+                → cond b (refused (duplicate_field (key_text q) (taken_span p got)) path (feed es' ending last)) (read s.shape (source_of q) (path ++ steps_at g l p) (feed es' ending last) >>= got_value (after_key n q) got p q) ≡ Ok (s', after) → Taken
+            by_test true e = absurd cc
+            by_test false e = sound_value one p s is end e
+
+        sound_nowhere : is_allowed (plan_of g c deny l) n q ≡ true → lead ≡ None → (skip_at path (feed es' ending last) >>= passed_over (after_key n q) got) ≡ Ok (s', after) → Taken
+        sound_nowhere one is e =
+            let (bs, told, made) = bind_ok (skip_at path (feed es' ending last)) (passed_over (after_key n q) got) (s', after) e in
+            let same = ok_is (record { count = after_key n q; values = got }, bs.1) (s', after) made in
+            let (r, cut, ends, at) = skip_sound path es' ending last bs.0 bs.1 told in (
+              r,
+              cut ∙ ap (λ (y : Got × Input). run_events r ++ y.1.events) same,
+              sym (ap (λ (y : Got × Input). y.1.ending) same) ∙ ends,
+              sym (ap (λ (y : Got × Input). y.1.last) same) ∙ at,
+              subst (λ (y : Got × Input). Keeps (es ++ (entry q r ∷ [])) y.0) same (next r got all one (put_nowhere r got is h)),
+            )
+
+        sound_path : is_allowed (plan_of g c deny l) n q ≡ true → (o : Option Path) → lead ≡ o → at_path (leaf_at g c l) (steps_at g l) o read q (after_key n q) got path (feed es' ending last) ≡ Ok (s', after) → Taken
+        sound_path one None is e = sound_nowhere one is e
+        sound_path one (Some p) is e = sound_end one p (leaf_at g c l p) is refl e
+
+        sound_field : field_on n got path (feed es' ending last) ≡ Ok (s', after) → Taken
+        sound_field e = by_test (is_allowed (plan_of g c deny l) n q) refl e
+          where
+            by_test : (b : Bool) → is_allowed (plan_of g c deny l) n q ≡ b
+                → cond b (at_path (leaf_at g c l) (steps_at g l) lead read q (after_key n q) got path (feed es' ending last)) (unexpected path (feed es' ending last)) ≡ Ok (s', after) → Taken
+            by_test true one e = sound_path one lead refl e
+            by_test false one e = absurd cc
+
+      -- complete
+      module _ (complete : (s : ℕ) (source : Source) → Complete (rd s source) (read s source)) (r : Run) (rest : List Event) where
+        abbrev Answer : Result (Got × Input) Fault → Type 0
+        Answer told = ((l' : List Entry) → read_struct g rd c deny l (es ++ (entry q r ∷ l')) ≡ None) ⊎ ((s' : Got) × (told ≡ Ok (s', feed rest ending (last_span last (run_events r)))) × Keeps (es ++ (entry q r ∷ [])) s')
+
+        abbrev input : Input
+        input = feed (run_events r ++ rest) ending last
+
+        none_read : (p : Path) (s : End) → lead ≡ Some p → leaf_at g c l p ≡ Some s → Lost (by_run rd) s (entry q r) p (placed (plan_of g c deny l) 0 es) → (l' : List Entry) → read_struct g rd c deny l (es ++ (entry q r ∷ l')) ≡ None
+        none_read p s is end gone l' = by_test (are_allowed (plan_of g c deny l) 0 (es ++ (entry q r ∷ l')))
+          where
+            whole : placed (plan_of g c deny l) 0 (es ++ (entry q r ∷ l')) ≡ placed (plan_of g c deny l) 0 es ++ (placed_at p (entry q r) ∷ placed (plan_of g c deny l) (after_key n q) l')
+            whole = placed_among (plan_of g c deny l) 0 es (entry q r) l' ∙ ap (λ o. placed (plan_of g c deny l) 0 es ++ cons_option (with_entry (entry q r) o) (placed (plan_of g c deny l) (after_key n q) l')) is
+
+            by_test : (b : Bool) → cond b (option_map structure (read_layout g (by_run rd) c l (placed (plan_of g c deny l) 0 (es ++ (entry q r ∷ l'))))) None ≡ None
+            by_test true = ap (λ xs. option_map structure (read_layout g (by_run rd) c l xs)) whole ∙ ap (option_map structure) (layout_lost g (by_run rd) c l p s (entry q r) end (placed (plan_of g c deny l) 0 es) (placed (plan_of g c deny l) (after_key n q) l') got h gone)
+            by_test false = refl
+
+        of_value : is_allowed (plan_of g c deny l) n q ≡ true → (p : Path) (s : End) → lead ≡ Some p → leaf_at g c l p ≡ Some s → (o : Option Tree) → rd s.shape (source_of q) r ≡ o
+            → Answer (read s.shape (source_of q) (path ++ steps_at g l p) input >>= got_value (after_key n q) got p q)
+        of_value one p s is end None reads = inl (none_read p s is end (inl reads))
+        of_value one p s is end (Some v) reads =
+            let told = complete s.shape (source_of q) (path ++ steps_at g l p) r v rest ending last reads in
+            inr (record { count = after_key n q; values = got ++ (told_at p q v ∷ []) }, ap (λ z. z >>= got_value (after_key n q) got p q) told, next r (got ++ (told_at p q v ∷ [])) all one (put_in r got p s v is end reads h))
+
+        of_end : is_allowed (plan_of g c deny l) n q ≡ true → (p : Path) (s : End) → lead ≡ Some p → leaf_at g c l p ≡ Some s → (b : Bool) → (not s.many && is_taken p got) ≡ b
+            → Answer (cond b (refused (duplicate_field (key_text q) (taken_span p got)) path input) (read s.shape (source_of q) (path ++ steps_at g l p) input >>= got_value (after_key n q) got p q))
+        of_end one p s is end true taken = inl (none_read p s is end (inr (ap (λ b. not s.many && b) (taken_kept (leaf_at g c l) (by_run rd) p (placed (plan_of g c deny l) 0 es) got h) ∙ taken)))
+        of_end one p s is end false taken = of_value one p s is end (rd s.shape (source_of q) r) refl
+
+        of_path : is_allowed (plan_of g c deny l) n q ≡ true → (o : Option Path) → lead ≡ o → Answer (at_path (leaf_at g c l) (steps_at g l) o read q (after_key n q) got path input)
+        of_path one None is = inr (record { count = after_key n q; values = got }, ap (λ z. z >>= passed_over (after_key n q) got) (skip_complete path r rest ending last), next r got all one (put_nowhere r got is h))
+        of_path one (Some p) is =
+            let (s, end) = key_leads g c deny l n q p is one in
+            subst (λ o. Answer (at_end_of o (steps_at g l p) read p q (after_key n q) got path input)) (sym end) (of_end one p s is end (not s.many && is_taken p got) refl)
+
+        of_field : Answer (field_on n got path input)
+        of_field = by_test (is_allowed (plan_of g c deny l) n q) refl
+          where
+            by_test : (b : Bool) → is_allowed (plan_of g c deny l) n q ≡ b → Answer (cond b (at_path (leaf_at g c l) (steps_at g l) lead read q (after_key n q) got path input) (unexpected path input))
+            by_test true one = of_path one lead refl
+            by_test false one = inl (λ l'. ap (λ b. cond b (option_map structure (read_layout g (by_run rd) c l (placed (plan_of g c deny l) 0 (es ++ (entry q r ∷ l'))))) None) (not_allowed (plan_of g c deny l) 0 es (entry q r) l' one))
+
+  pub field_sound : ((s : ℕ) (source : Source) → Sound (rd s source) (read s source)) → EntrySound Got (read_struct g rd c deny l) (field_at (leaf_at g c l) (steps_at g l) (plan_of g c deny l) read) Keeps
+  field_sound sound es s (all, count, h) q path l' ending last s' after e =
+      sound_field es q s.values all h path ending last sound l' s' after (ap (λ n. field_on es q n s.values path (feed l' ending last)) (sym count) ∙ e)
+
+  field_complete : ((s : ℕ) (source : Source) → Complete (rd s source) (read s source)) → EntryComplete Got (read_struct g rd c deny l) (field_at (leaf_at g c l) (steps_at g l) (plan_of g c deny l) read) Keeps
+  field_complete complete es s (all, count, h) q path r rest ending last =
+      subst (λ n. Answer es q s.values all h path ending last complete r rest (field_on es q n s.values path (feed (run_events r ++ rest) ending last))) (sym count) (of_field es q s.values all h path ending last complete r rest)
+
+  ok_both : (r : Result Tree Fault) (o : Option Tree) → ok_of r ≡ o → (v : Tree) → ((r ≡ Ok v) → (o ≡ Some v)) × ((o ≡ Some v) → (r ≡ Ok v))
+  ok_both (Ok w) o same v = (λ e. cc, λ e. cc)
+  ok_both (Err f) o same v = (λ e. absurd cc, λ e. absurd cc)
+
+  finishes : Finishes Got (read_struct g rd c deny l) (field_at (leaf_at g c l) (steps_at g l) (plan_of g c deny l) read) Keeps (gathered g c l shape)
+  finishes es s (all, count, h) path input v =
+      let same : read_struct g rd c deny l es ≡ option_map structure (read_layout g kept c l s.values) = ap (λ b. cond b (option_map structure (read_layout g (by_run rd) c l (placed (plan_of g c deny l) 0 es))) None) all ∙ ap (option_map structure) (layout_same g (by_run rd) c l (placed (plan_of g c deny l) 0 es) s.values h) in
+      ok_both (gathered g c l shape s path input) (read_struct g rd c deny l es) (gathered_ok g c l shape s path input ∙ sym same) v
+
+  pub struct_sound : ((s : ℕ) (source : Source) → Sound (rd s source) (read s source)) → Sound (read_object (read_struct g rd c deny l)) (struct_at g read c deny l shape)
+  struct_sound sound = object_sound Got (read_struct g rd c deny l) (field_at (leaf_at g c l) (steps_at g l) (plan_of g c deny l) read) Keeps nothing_got (refl, refl, tt) (gathered g c l shape) finishes (field_sound sound)
+
+  pub struct_complete : ((s : ℕ) (source : Source) → Complete (rd s source) (read s source)) → Complete (read_object (read_struct g rd c deny l)) (struct_at g read c deny l shape)
+  struct_complete complete = object_complete Got (read_struct g rd c deny l) (field_at (leaf_at g c l) (steps_at g l) (plan_of g c deny l) read) Keeps nothing_got (refl, refl, tt) (gathered g c l shape) finishes (field_complete complete)

@@ -1,0 +1,12 @@
+pub mod Input
+pub mod Skips
+pub mod Objects
+pub mod Nodes
+pub mod Structs
+pub mod Options
+pub mod Sequences
+pub mod Tuples
+pub mod Values
+pub mod Laws
+pub mod Causes
+pub mod LostOption

@@ -1,0 +1,194 @@
+-- Structs: what is read behind each key is kept under the path of its field, and gathered at the end.
+use Rattle.std.specs.Prelude.{ℕ, zero, suc, List, [], ◌∷◌, ◌++◌, length, Option, Some, None, slice_get, Result, Ok, Bool, true, false, cond, not, ◌&&◌, ◌||◌}
+use Rattle.semantics.specs.Trees.{Tree, structure, Trees, no_trees, tree}
+use Rattle.semantics.specs.Shapes.{Field, Definition, Registry, definition_at}
+use Rattle.semantics.specs.Events.{Span, Key, key_note}
+use Rattle.semantics.specs.Faults.{Step, field_step, missing_field, duplicate_field, Fault}
+use Rattle.semantics.specs.Places.{Path, At, below, is_end, has_whole, Choice}
+use Rattle.semantics.specs.Keys.{Layout, Plan, plan_of, leads, after_key, is_allowed}
+use Rattle.semantics.specs.Reading.{Source, Parts, key_text, source_of, fill, in_parts}
+use Rattle.laws_reading.specs.Input.{Input, ◌>>=◌, Reads, refused, unexpected, never}
+use Rattle.laws_reading.specs.Objects.{Takes, Finish, object_at}
+use Rattle.laws_reading.specs.Skips.{Opened, skip_at}
+
+-- reads a part of a shape, by its number
+abbrev pub ReadsPart : Type 0
+ReadsPart = ℕ → Source → Reads Tree
+
+-- what was read, with the text of its key, and where the key stood
+pub record Told : Type 0 where
+  pub name : List ℕ
+  pub span : Span
+  pub value : Tree
+
+-- how many keys named their field by its order, and what was read, under its path
+pub record Got : Type 0 where
+  pub count : ℕ
+  pub values : List (At Told)
+
+abbrev pub nothing_got : Got
+nothing_got = record { count = 0; values = [] }
+
+-- what stands at the end of a path: of which shape, and whether any number of them may
+pub record End : Type 0 where
+  pub shape : ℕ
+  pub many : Bool
+
+abbrev pub one_of : ℕ → End
+one_of s = record { shape = s; many = false }
+
+abbrev pub leaf_end : Option End → Path → Option End
+leaf_end o [] = o
+leaf_end o (k ∷ p) = None
+
+-- the ends of a flattened shape
+abbrev pub FlatLeaf : Type 0
+FlatLeaf = Option Definition → Choice → Path → Option End
+
+abbrev pub leaf_field : FlatLeaf → Registry → Bool → Choice → Field → Path → Option End
+leaf_field inner g whole c f p = cond (in_parts whole f (is_end p)) (inner (definition_at g f.shape) c p) (leaf_end (Some (one_of f.shape)) p)
+
+abbrev pub leaf_found : FlatLeaf → Registry → Bool → Choice → Option Field → Path → Option End
+leaf_found inner g whole c None p = None
+leaf_found inner g whole c (Some f) p = leaf_field inner g whole c f p
+
+abbrev pub leaf_in : FlatLeaf → Registry → Bool → Choice → List Field → Path → Option End
+leaf_in inner g whole c fs [] = None
+leaf_in inner g whole c fs (k ∷ p) = leaf_found inner g whole (below k c) (slice_get fs k) p
+
+-- Within so many layers. No shape can be flattened yet.
+abbrev pub leaf_flat : Registry → ℕ → FlatLeaf
+leaf_flat g zero d c p = None
+leaf_flat g (suc n) d c p = None
+
+-- where the paths of an object end
+abbrev pub leaf_at : Registry → Choice → Layout → Path → Option End
+leaf_at g c l p = leaf_in (leaf_flat g (length g)) g l.whole c l.fields p
+
+-- the steps to the parts of a flattened shape
+abbrev pub FlatSteps : Type 0
+FlatSteps = Option Definition → Path → List Step
+
+abbrev pub steps_found : FlatSteps → Registry → Option Field → Path → List Step
+steps_found inner g None p = []
+steps_found inner g (Some f) p = field_step f.name ∷ inner (definition_at g f.shape) p
+
+abbrev pub steps_in : FlatSteps → Registry → List Field → Path → List Step
+steps_in inner g fs [] = []
+steps_in inner g fs (k ∷ p) = steps_found inner g (slice_get fs k) p
+
+-- Within so many layers. No shape can be flattened yet.
+abbrev pub flat_steps : Registry → ℕ → FlatSteps
+flat_steps g zero d p = []
+flat_steps g (suc n) d p = []
+
+-- a path of places, as steps by the declared names
+abbrev pub steps_at : Registry → Layout → Path → List Step
+steps_at g l p = steps_in (flat_steps g (length g)) g l.fields p
+
+abbrev pub is_filled : {A : Type 0} → List (At A) → Bool
+is_filled [] = false
+is_filled (x ∷ xs) = true
+
+-- something stands at this path, before it or below it
+abbrev pub is_taken : {A : Type 0} → Path → List (At A) → Bool
+is_taken [] xs = is_filled xs
+is_taken (k ∷ p) xs = has_whole (below k xs) || is_taken p (below k xs)
+
+abbrev pub first_span : List (At Told) → Option Span
+first_span [] = None
+first_span (x ∷ xs) = Some x.item.span
+
+abbrev pub whole_span : List (At Told) → Option Span
+whole_span [] = None
+whole_span (x ∷ xs) = cond (is_end x.path) (Some x.item.span) (whole_span xs)
+
+abbrev pub or_span : Option Span → Option Span → Option Span
+or_span (Some s) o = Some s
+or_span None o = o
+
+-- where the key stood of what is there at this path, before it or below it
+abbrev pub taken_span : Path → List (At Told) → Option Span
+taken_span [] xs = first_span xs
+taken_span (k ∷ p) xs = or_span (whole_span (below k xs)) (taken_span p (below k xs))
+
+abbrev pub told_at : Path → Key → Tree → At Told
+told_at p q v = record { path = p; item = record { name = key_text q; span = (key_note q).span; value = v } }
+
+abbrev pub got_value : ℕ → List (At Told) → Path → Key → Tree × Input → Result (Got × Input) Fault
+got_value n got p q v = Ok (record { count = n; values = got ++ (told_at p q v.0 ∷ []) }, v.1)
+
+abbrev pub at_end_of : Option End → List Step → ReadsPart → Path → Key → ℕ → List (At Told) → Reads Got
+at_end_of None steps read p q n got path input = never path input
+at_end_of (Some e) steps read p q n got path input =
+    cond (not e.many && is_taken p got)
+    (refused (duplicate_field (key_text q) (taken_span p got)) path input)
+    (read e.shape (source_of q) (path ++ steps) input >>= got_value n got p q)
+
+abbrev pub passed_over : ℕ → List (At Told) → Opened × Input → Result (Got × Input) Fault
+passed_over n got x = Ok (record { count = n; values = got }, x.1)
+
+-- the value behind a key that leads there, or nowhere
+abbrev pub at_path : (Path → Option End) → (Path → List Step) → Option Path → ReadsPart → Key → ℕ → List (At Told) → Reads Got
+at_path ends steps None read q n got path input = skip_at path input >>= passed_over n got
+at_path ends steps (Some p) read q n got path input = at_end_of (ends p) (steps p) read p q n got path input
+
+-- a key, and the value behind it
+abbrev pub field_at : (Path → Option End) → (Path → List Step) → Plan → ReadsPart → Takes Got
+field_at ends steps plan read q s path input =
+    cond (is_allowed plan s.count q) (at_path ends steps (leads plan s.count q) read q (after_key s.count q) s.values path input) (unexpected path input)
+
+-- what was read stands for itself
+abbrev pub kept : Parts Told
+kept = record { value_of = λ s y. Some y.value; name_of = λ y. y.name }
+
+-- a struct by its shape's number, at its path, and its end
+pub record Spot : Type 0 where
+  pub shape : ℕ
+  pub path : List Step
+  pub input : Input
+
+abbrev pub or_missing : Field → Spot → Option Tree → Result Tree Fault
+or_missing f spot None = refused (missing_field f.name spot.shape) spot.path spot.input
+or_missing f spot (Some v) = Ok v
+
+-- the value of a field, or what stands for an absent one
+abbrev pub gather_own : Registry → Field → Spot → List (At Told) → Result Tree Fault
+gather_own g f spot [] = or_missing f spot (fill g f)
+gather_own g f spot (x ∷ []) = Ok x.item.value
+gather_own g f spot (x ∷ y ∷ xs) = never spot.path spot.input
+
+-- gathers the parts of a flattened shape
+abbrev pub Gathers : Type 0
+Gathers = Option Definition → Choice → Spot → List (At Told) → Result Tree Fault
+
+abbrev pub inner_spot : Field → Spot → Spot
+inner_spot f spot = record { shape = f.shape; path = spot.path ++ (field_step f.name ∷ []); input = spot.input }
+
+abbrev pub gather_field : Gathers → Registry → Bool → Choice → Field → Spot → List (At Told) → Result Tree Fault
+gather_field flat g whole c f spot xs = cond (in_parts whole f (has_whole xs)) (flat (definition_at g f.shape) c (inner_spot f spot) xs) (gather_own g f spot xs)
+
+abbrev pub with_tree : Tree → Trees → Result Trees Fault
+with_tree v vs = Ok (tree v vs)
+
+-- the values of these fields, the first of which has place k
+abbrev pub gather_fields : Gathers → Registry → Bool → Choice → Spot → ℕ → List Field → List (At Told) → Result Trees Fault
+gather_fields flat g whole c spot k [] xs = Ok no_trees
+gather_fields flat g whole c spot k (f ∷ fs) xs = gather_field flat g whole (below k c) f spot (below k xs) >>= λ v. gather_fields flat g whole c spot (suc k) fs xs >>= with_tree v
+
+-- Within so many layers. No shape can be flattened yet.
+abbrev pub gather_flat : Registry → ℕ → Gathers
+gather_flat g zero d c spot xs = never spot.path spot.input
+gather_flat g (suc n) d c spot xs = never spot.path spot.input
+
+abbrev pub as_structure : Trees → Result Tree Fault
+as_structure vs = Ok (structure vs)
+
+-- the struct of what was read, where what is absent is filled
+abbrev pub gathered : Registry → Choice → Layout → ℕ → Finish Got
+gathered g c l shape s path input =
+    gather_fields (gather_flat g (length g)) g l.whole c (record { shape = shape; path = path; input = input }) 0 l.fields s.values >>= as_structure
+
+-- a struct of this shape, under a choice of variants
+abbrev pub struct_at : Registry → ReadsPart → Choice → Bool → Layout → ℕ → Reads Tree
+struct_at g read c deny l shape = object_at (field_at (leaf_at g c l) (steps_at g l) (plan_of g c deny l) read) nothing_got (gathered g c l shape)
