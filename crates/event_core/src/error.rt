@@ -8,20 +8,20 @@ use crate::span::Span;
 use shape_core::{Name, ShapeName, Text};
 use std::fmt::Debug;
 
-/// What is wrong with the input, or with the value that it holds.
+/// What is wrong with the input, or with the value that it holds. `'e` is how long its texts are borrowed.
 #[derive(Debug, Drop)]
-pub enum DeserializeErrorKind {
+pub enum DeserializeErrorKind<'e> {
     /// A character that can't stand there.
     UnexpectedChar {
         /// The character.
         ch: char,
         /// What may stand there.
-        expected: &'static str,
+        expected: &'e str,
     },
     /// The input ends too early.
     UnexpectedEof {
         /// What has to come.
-        expected: &'static str,
+        expected: &'e str,
     },
     /// A line isn't UTF-8.
     InvalidUtf8 {
@@ -33,16 +33,16 @@ pub enum DeserializeErrorKind {
     /// An event that can't stand there.
     UnexpectedToken {
         /// The event.
-        got: Text<'static>,
+        got: Text<'e>,
         /// What may stand there.
-        expected: &'static str,
+        expected: &'e str,
     },
     /// A value of another type.
     TypeMismatch {
         /// The type that is read.
         expected: ShapeName,
         /// What came.
-        got: Text<'static>,
+        got: Text<'e>,
     },
     /// A value of another shape.
     ShapeMismatch {
@@ -54,14 +54,14 @@ pub enum DeserializeErrorKind {
     /// A key that names no field.
     UnknownField {
         /// The key.
-        field: Text<'static>,
+        field: Text<'e>,
         /// A field whose name is like it.
         suggestion: Option<Name>,
     },
     /// A tag that names no variant.
     UnknownVariant {
         /// The tag.
-        variant: Text<'static>,
+        variant: Text<'e>,
         /// The enum.
         enum_shape: ShapeName,
     },
@@ -70,7 +70,7 @@ pub enum DeserializeErrorKind {
         /// The enum.
         enum_shape: ShapeName,
         /// What the input is.
-        input_kind: &'static str,
+        input_kind: &'e str,
     },
     /// A field has neither a value nor a default.
     MissingField {
@@ -82,67 +82,67 @@ pub enum DeserializeErrorKind {
     /// A field has two values.
     DuplicateField {
         /// The key.
-        field: Text<'static>,
+        field: Text<'e>,
         /// Where its first value has its key.
         first_span: Option<Span>,
     },
     /// A number is no value of its type.
     NumberOutOfRange {
         /// The number.
-        value: Text<'static>,
+        value: Text<'e>,
         /// The type.
-        target_type: &'static str,
+        target_type: &'e str,
     },
     /// A value that its type doesn't have.
     InvalidValue {
         /// What is wrong with it.
-        message: Text<'static>,
+        message: Text<'e>,
     },
     /// A text can't be borrowed from the input.
     CannotBorrow {
         /// Why not.
-        reason: Text<'static>,
+        reason: Text<'e>,
     },
     /// A value can't be built.
     Reflect {
         /// Why not.
-        kind: ReflectErrorKind,
+        kind: ReflectErrorKind<'e>,
         /// What was done then.
-        context: &'static str,
+        context: &'e str,
     },
     /// A form that can't be read.
     Unsupported {
         /// The form.
-        message: Text<'static>,
+        message: Text<'e>,
     },
     /// A read failed.
     Io {
         /// How it failed.
-        message: Text<'static>,
+        message: Text<'e>,
     },
     /// No choice of variants fits the keys.
     Solver {
         /// Why not.
-        message: Text<'static>,
+        message: Text<'e>,
     },
     /// A value is refused by a rule of its own.
     Validation {
         /// The field.
         field: Name,
         /// The rule.
-        message: Text<'static>,
+        message: Text<'e>,
     },
     /// A fault of the program.
     Bug {
         /// The fault.
-        error: Text<'static>,
+        error: Text<'e>,
         /// What was done then.
-        context: &'static str,
+        context: &'e str,
     },
     /// Memory ran out.
     Alloc {
         /// What it was wanted for.
-        operation: &'static str,
+        operation: &'e str,
     },
     /// A value was built for another shape.
     Materialize {
@@ -163,24 +163,24 @@ pub enum DeserializeErrorKind {
     },
 }
 
-/// What a parser answers where it can't go on.
+/// What a parser answers where it can't go on. `'e` is how long its texts are borrowed.
 #[derive(Debug, Drop)]
-pub struct ParseError {
+pub struct ParseError<'e> {
     /// Where it stands.
     pub span: Span,
     /// What is wrong there.
-    pub kind: DeserializeErrorKind,
+    pub kind: DeserializeErrorKind<'e>,
 }
 
-/// Why a value wasn't read.
+/// Why a value wasn't read. `'e` is how long its texts are borrowed.
 #[derive(Drop)]
-pub struct DeserializeError {
+pub struct DeserializeError<'e> {
     /// Where the input has what is wrong.
     pub span: Option<Span>,
     /// The part of the value that was read then.
-    pub path: Option<Path>,
+    pub path: Option<Path<'e>>,
     /// What is wrong.
-    pub kind: DeserializeErrorKind,
+    pub kind: DeserializeErrorKind<'e>,
 }
 
 /// Why a value wasn't written.
@@ -189,7 +189,7 @@ pub enum SerializeError<E: Debug> {
     /// The format refused.
     Backend(E),
     /// The value isn't of its shape.
-    Reflect(ReflectError),
+    Reflect(ReflectError<'static>),
     /// The value has a part without a form.
     Unsupported(Text<'static>),
     /// A fault of the program.
@@ -198,19 +198,19 @@ pub enum SerializeError<E: Debug> {
     Alloc,
 }
 
-impl ParseError {
+impl<'e> ParseError<'e> {
     /// An error at a place.
-    pub fn new(span: Span, kind: DeserializeErrorKind) -> ParseError
-        ensures { result ≡ record { span = span; kind = kind } }
+    pub fn new(span: Span, kind: DeserializeErrorKind<'e>) -> ParseError<'e>
+        ensures { result ≡ record { span = span; kind = kind.entry } }
     {
         ParseError { span, kind }
     }
 }
 
-impl DeserializeErrorKind {
+impl<'e> DeserializeErrorKind<'e> {
     /// The error at a place, at no part of a value.
-    pub fn with_span(self, span: Span) -> DeserializeError
-        ensures { result ≡ record { span = Some span; path = None; kind = self } }
+    pub fn with_span(self, span: Span) -> DeserializeError<'e>
+        ensures { result ≡ record { span = Some span; path = None; kind = self.entry } }
     {
         DeserializeError {
             span: Some(span),
@@ -220,10 +220,10 @@ impl DeserializeErrorKind {
     }
 }
 
-impl DeserializeError {
+impl<'e> DeserializeError<'e> {
     /// The same error at this place.
-    pub fn set_span(self, span: Span) -> DeserializeError
-        ensures { result ≡ record self { span = Some span } }
+    pub fn set_span(self, span: Span) -> DeserializeError<'e>
+        ensures { result ≡ record self.entry { span = Some span } }
     {
         DeserializeError {
             span: Some(span),
@@ -233,8 +233,8 @@ impl DeserializeError {
     }
 
     /// The same error at this part of the value.
-    pub fn set_path(self, path: Path) -> DeserializeError
-        ensures { result ≡ record self { path = Some path } }
+    pub fn set_path(self, path: Path<'e>) -> DeserializeError<'e>
+        ensures { result ≡ record self.entry { path = Some path.entry } }
     {
         DeserializeError {
             span: self.span,
@@ -244,14 +244,14 @@ impl DeserializeError {
     }
 
     /// The same error at another part of the value.
-    pub fn with_path(self, new_path: Path) -> DeserializeError
-        ensures { result ≡ record self { path = Some new_path } }
+    pub fn with_path(self, new_path: Path<'e>) -> DeserializeError<'e>
+        ensures { result ≡ record self.entry { path = Some new_path.entry } }
     {
         self.set_path(new_path)
     }
 
     /// The part of the value that was read then.
-    pub fn path(&self) -> Option<&Path>
+    pub fn path(&self) -> Option<&Path<'e>>
         ensures { option_copied result ≡ self.now.path }
     {
         self.path.as_ref()
@@ -265,15 +265,15 @@ impl DeserializeError {
     }
 }
 
-impl DeserializeError {
+impl<'e> DeserializeError<'e> {
     /// What a refused builder is answered as, at this place.
     ///
     /// A field that isn't set is [`DeserializeErrorKind::MissingField`], and every other refusal stands as it is. Want
     /// of memory stays want of memory, which has neither a place nor a path.
-    pub fn from_reflect(error: ReflectError, span: Span) -> DeserializeError
-        ensures kind { IsRefusedAs error.kind result.kind }
-        ensures span { result.span ≡ refused_span error.kind span }
-        ensures path { result.path ≡ refused_path error.kind error.path }
+    pub fn from_reflect(error: ReflectError<'e>, span: Span) -> DeserializeError<'e>
+        ensures kind { IsRefusedAs error.entry.kind result.kind }
+        ensures span { result.span ≡ refused_span error.entry.kind span }
+        ensures path { result.path ≡ refused_path error.entry.kind error.entry.path }
     {
         let ReflectError { path, kind } = error;
         let kind = match kind {
@@ -290,7 +290,7 @@ impl DeserializeError {
     }
 }
 
-fn out_of_memory() -> DeserializeError
+fn out_of_memory<'e>() -> DeserializeError<'e>
     ensures kind { is_memory result.kind ≡ true }
     ensures nowhere { (result.span ≡ None) × (result.path ≡ None) }
 {
@@ -301,12 +301,12 @@ fn out_of_memory() -> DeserializeError
     }
 }
 
-impl From<ParseError> for DeserializeError {
+impl<'e> From<ParseError<'e>> for DeserializeError<'e> {
     ghost use Rattle.std.specs.Prelude.{◌≡◌, None, Some};
 
     ghost from_gives = { λ error given. given ≡ record { span = Some error.span; path = None; kind = error.kind } };
 
-    fn from(error: ParseError) -> DeserializeError {
+    fn from(error: ParseError<'e>) -> DeserializeError<'e> {
         error.kind.with_span(error.span)
     }
 }

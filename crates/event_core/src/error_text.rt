@@ -9,7 +9,7 @@ use shape_core::Name;
 use std::error::Error;
 use std::fmt;
 
-impl fmt::Display for DeserializeErrorKind {
+impl fmt::Display for DeserializeErrorKind<'_> {
     ghost use Rattle.event_core.specs.ErrorTexts.{fault_text};
 
     ghost output = { fault_text };
@@ -173,9 +173,9 @@ fn write_refusal<W: fmt::Write>(
     }
 }
 
-impl Error for DeserializeErrorKind {}
+impl Error for DeserializeErrorKind<'_> {}
 
-impl fmt::Display for ParseError {
+impl fmt::Display for ParseError<'_> {
     ghost use Rattle.event_core.specs.ErrorTexts.{parse_error_text};
 
     ghost output = { parse_error_text };
@@ -187,9 +187,9 @@ impl fmt::Display for ParseError {
     }
 }
 
-impl Error for ParseError {}
+impl Error for ParseError<'_> {}
 
-impl fmt::Display for DeserializeError {
+impl fmt::Display for DeserializeError<'_> {
     ghost use Rattle.event_core.specs.ErrorTexts.{error_text};
 
     ghost output = { error_text };
@@ -203,7 +203,7 @@ impl fmt::Display for DeserializeError {
     }
 }
 
-impl fmt::Debug for DeserializeError {
+impl fmt::Debug for DeserializeError<'_> {
     fn fmt<W: fmt::Write>(&self, f: &mut fmt::Formatter<W>) -> fmt::Result {
         write!(f, "DeserializeError {{ span: ")?;
         match &self.span {
@@ -220,7 +220,7 @@ impl fmt::Debug for DeserializeError {
     }
 }
 
-impl Error for DeserializeError {}
+impl Error for DeserializeError<'_> {}
 
 impl<E: fmt::Debug> fmt::Display for SerializeError<E> {
     ghost use Rattle.std.specs.Prelude.{Some};

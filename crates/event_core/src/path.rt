@@ -9,24 +9,24 @@ use std::alloc::Global;
 use std::fmt;
 use std::marker::Model;
 
-/// One step from a value to a part of it.
+/// One step from a value to a part of it. `'e` is how long its name is borrowed.
 #[derive(Debug, PartialEq, Eq, Drop)]
-pub enum PathSegment {
+pub enum PathSegment<'e> {
     /// To a field, by its name.
-    Field(Text<'static>),
+    Field(Text<'e>),
     /// To an item, by its place.
     Index(usize),
     /// To a variant, by its name.
-    Variant(Text<'static>),
+    Variant(Text<'e>),
 }
 
-/// The steps from a value to a part of it, the outermost first.
+/// The steps from a value to a part of it, the outermost first. `'e` is how long their names are borrowed.
 #[derive(Debug, Drop)]
-pub struct Path {
-    steps: Items<PathSegment>,
+pub struct Path<'e> {
+    steps: Items<PathSegment<'e>>,
 }
 
-impl Model for Path {
+impl<'e> Model for Path<'e> {
     ghost use Rattle.std.specs.Prelude.{List};
     ghost use Rattle.event_core.specs.declared.path.PathSegment.{PathSegment};
 
@@ -35,7 +35,7 @@ impl Model for Path {
     ghost view = { λ path. path.steps };
 }
 
-impl PartialEq for Path {
+impl PartialEq for Path<'_> {
     ghost use Rattle.std.specs.Cmp.Lexicographic.{pointwise, lists_per};
     ghost use Rattle.event_core.specs.contracts.path.PathSegmentPartialEq.TheImpl as step;
     ghost use Rattle.event_core.specs.contracts.path.PathSegmentPartialEq.TheImpl.Laws as step_laws;
@@ -44,21 +44,21 @@ impl PartialEq for Path {
 
     ghost laws = { lists_per step_laws.laws-law };
 
-    fn eq(&self, other: &Path) -> bool {
+    fn eq(&self, other: &Self) -> bool {
         self.steps == other.steps
     }
 }
 
-impl Eq for Path {
+impl Eq for Path<'_> {
     ghost use Rattle.std.specs.Cmp.Lexicographic.{lists_equiv};
     ghost use Rattle.event_core.specs.contracts.path.PathSegmentEq.TheImpl.Laws as step_laws;
 
     ghost laws = { lists_equiv step_laws.laws-law };
 }
 
-impl PathSegment {
+impl<'e> PathSegment<'e> {
     /// The same step again. It is refused for want of memory alone.
-    pub fn try_clone(&self, alloc: Global) -> Result<PathSegment, OutOfMemory>
+    pub fn try_clone(&self, alloc: Global) -> Result<PathSegment<'e>, OutOfMemory>
         ensures { IfOk result (λ copy. copy ≡ self.now) }
     {
         match self {
@@ -75,9 +75,9 @@ impl PathSegment {
     }
 }
 
-impl Path {
+impl<'e> Path<'e> {
     /// The path to the value itself.
-    pub fn new(alloc: Global) -> Path
+    pub fn new(alloc: Global) -> Path<'e>
         ensures { result ≡ [] }
     {
         Path {
@@ -86,22 +86,22 @@ impl Path {
     }
 
     /// Goes one step further. A refusal, for want of memory alone, changes nothing.
-    pub fn push(&mut self, step: PathSegment) -> Result<(), OutOfMemory>
-        ensures ok { OnOk result (self.new ≡ self.old ++ step ∷ []) }
+    pub fn push(&mut self, step: PathSegment<'e>) -> Result<(), OutOfMemory>
+        ensures ok { OnOk result (self.new ≡ self.old ++ step.entry ∷ []) }
         ensures err { OnErr result (self.new ≡ self.old) }
     {
         self.steps.push(step)
     }
 
     /// The steps, the outermost first.
-    pub fn steps(&self) -> &[PathSegment]
+    pub fn steps(&self) -> &[PathSegment<'e>]
         ensures { result.now ≡ self.now }
     {
         self.steps.as_slice()
     }
 
     /// The same path again. It is refused for want of memory alone.
-    pub fn try_clone(&self, alloc: Global) -> Result<Path, OutOfMemory>
+    pub fn try_clone(&self, alloc: Global) -> Result<Path<'e>, OutOfMemory>
         ensures { IfOk result (λ copy. copy ≡ self.now) }
     {
         let mut copy = Path::new(alloc);
@@ -112,7 +112,7 @@ impl Path {
     }
 }
 
-impl fmt::Display for PathSegment {
+impl fmt::Display for PathSegment<'_> {
     ghost use Rattle.std.specs.Prelude.{Some};
     ghost use Rattle.event_core.specs.ErrorTexts.{step_text};
 
@@ -133,7 +133,7 @@ impl fmt::Display for PathSegment {
     }
 }
 
-impl fmt::Display for Path {
+impl fmt::Display for Path<'_> {
     ghost use Rattle.std.specs.Prelude.{Some};
     ghost use Rattle.event_core.specs.ErrorTexts.{path_text};
 

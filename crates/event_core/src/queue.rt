@@ -59,6 +59,13 @@ impl<'de> EventQueue<'de> {
         }
     }
 
+    /// How many events it may hold beyond the furthest one taken.
+    pub fn capacity(&self) -> usize
+        ensures { result ≡ self.now.capacity }
+    {
+        self.capacity
+    }
+
     /// How many events are held and not yet taken.
     pub fn ahead(&self) -> usize
         ensures count { result ≡ length self.now.ahead }

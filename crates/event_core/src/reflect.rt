@@ -2,9 +2,9 @@
 use crate::path::Path;
 use shape_core::{Name, ShapeName};
 
-/// Why a call that builds a value refused.
+/// Why a call that builds a value refused. `'e` is how long its texts are borrowed.
 #[derive(Debug, Drop)]
-pub enum ReflectErrorKind {
+pub enum ReflectErrorKind<'e> {
     /// A field of the shape was not set.
     UninitializedField {
         /// The struct or the enum.
@@ -38,7 +38,7 @@ pub enum ReflectErrorKind {
         /// The shape that was expected.
         shape: ShapeName,
         /// What came.
-        got: &'static str,
+        got: &'e str,
     },
     /// The shape has no default.
     NoDefault {
@@ -70,11 +70,11 @@ pub enum ReflectErrorKind {
     Alloc,
 }
 
-/// A refusal, and the part of the value at which it came.
+/// A refusal, and the part of the value at which it came. `'e` is how long its texts are borrowed.
 #[derive(Debug, Drop)]
-pub struct ReflectError {
+pub struct ReflectError<'e> {
     /// The part.
-    pub path: Path,
+    pub path: Path<'e>,
     /// Why it was refused.
-    pub kind: ReflectErrorKind,
+    pub kind: ReflectErrorKind<'e>,
 }

@@ -3,7 +3,7 @@ use crate::reflect::{ReflectError, ReflectErrorKind};
 use std::error::Error;
 use std::fmt;
 
-impl fmt::Display for ReflectErrorKind {
+impl fmt::Display for ReflectErrorKind<'_> {
     ghost use Rattle.std.specs.Prelude.{Some};
     ghost use Rattle.event_core.specs.ErrorTexts.{refusal_text};
 
@@ -45,9 +45,9 @@ impl fmt::Display for ReflectErrorKind {
     }
 }
 
-impl Error for ReflectErrorKind {}
+impl Error for ReflectErrorKind<'_> {}
 
-impl fmt::Display for ReflectError {
+impl fmt::Display for ReflectError<'_> {
     ghost use Rattle.std.specs.Prelude.{Some};
     ghost use Rattle.event_core.specs.ErrorTexts.{reflect_error_text};
 
@@ -60,4 +60,4 @@ impl fmt::Display for ReflectError {
     }
 }
 
-impl Error for ReflectError {}
+impl Error for ReflectError<'_> {}

@@ -50,7 +50,7 @@ fn point(alloc: Global) -> Result<ShapeName, OutOfMemory> {
 }
 
 /// The path `.a[3]::Ok`.
-fn path(alloc: Global) -> Result<Path, OutOfMemory> {
+fn path<'e>(alloc: Global) -> Result<Path<'e>, OutOfMemory> {
     let mut path = Path::new(alloc);
     path.push(PathSegment::Field(Text::Borrowed("a")))?;
     path.push(PathSegment::Index(3))?;

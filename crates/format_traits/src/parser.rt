@@ -1,5 +1,5 @@
 //! A parser of one format.
-ghost use Rattle.std.specs.Prelude.{◌≡◌, ◌≤◌, ◌<◌, ◌⊎◌, [], map, IsNone, IfOk, IfErr, OnOk, OnErr, option_to_list};
+ghost use Rattle.std.specs.Prelude.{◌≡◌, ◌≤◌, ◌<◌, ◌⊎◌, Bool, [], map, IsTrue, IsNone, IsSome, IfOk, IfErr, OnOk, OnErr, option_to_list};
 ghost use Rattle.event_core.specs.Events.{event_of};
 ghost use Rattle.format_traits.specs.Parsing.{Parsing, Gave, Failed, EndAfter, Met, IsNext, IsMemory, HasCause};
 ghost use Rattle.format_traits.specs.Batches.{Put, PutBefore};
@@ -16,8 +16,11 @@ pub trait FormatParser<'de> {
     /// What it has still to give.
     ghost parsing: { Self → Parsing };
 
+    /// Whether parsers of this type tell their events.
+    ghost tells: { Bool };
+
     /// Takes the next event. None comes only where no event is left.
-    fn next_event(&mut self) -> Result<Option<ParseEvent<'de>>, ParseError>
+    fn next_event(&mut self) -> Result<Option<ParseEvent<'de>>, ParseError<'de>>
         ensures gave { IfOk result (λ event. Gave (map event_of (option_to_list event)) (parsing self.old) (parsing self.new)) }
         ensures end { IfOk result (λ event. IsNone event → EndAfter [] (parsing self.old)) }
         ensures failed { OnErr result (Failed (parsing self.old) (parsing self.new)) }
@@ -30,7 +33,7 @@ pub trait FormatParser<'de> {
         &mut self,
         buf: &mut VecDeque<ParseEvent<'de>>,
         limit: usize,
-    ) -> Result<usize, ParseError>
+    ) -> Result<usize, ParseError<'de>>
         ensures put { IfOk result (λ count. Put count (parsing self.old) (parsing self.new) buf.old.items buf.new.items) }
         ensures within { IfOk result (λ count. count ≤ limit) }
         ensures end { IfOk result (λ count. count < limit → EndAfter [] (parsing self.new)) }
@@ -38,7 +41,7 @@ pub trait FormatParser<'de> {
         ensures cause { HasCause (parsing self.old).faults (parsing self.new).faults result };
 
     /// The next event, which isn't taken. None comes only where no event is left.
-    fn peek_event(&mut self) -> Result<Option<ParseEvent<'de>>, ParseError>
+    fn peek_event(&mut self) -> Result<Option<ParseEvent<'de>>, ParseError<'de>>
         ensures next { IfOk result (λ event. IsNext event (parsing self.old)) }
         ensures kept { OnOk result (Gave [] (parsing self.old) (parsing self.new)) }
         ensures end { IfOk result (λ event. IsNone event → EndAfter [] (parsing self.old)) }
@@ -52,4 +55,6 @@ pub trait FormatParser<'de> {
 
     /// Where it stands in the input, if it knows.
     fn current_span(&self) -> Option<Span>;
+
+    ghost told: { (p : Self) → IsTrue tells → IsSome (parsing p).coming };
 }

@@ -9,21 +9,23 @@ use shape_core::{OutOfMemory, ShapeId, Shapes};
 use std::alloc::Global;
 
 /// What a reader needs to know of the shapes of a registry.
+///
+/// `'s` is how long they are borrowed, and `'v` how long texts of their declared defaults are.
 #[derive(Drop)]
-pub struct TypePlans<'s> {
-    shapes: &'s Shapes,
+pub struct TypePlans<'s, 'v> {
+    shapes: &'s Shapes<'v>,
 }
 
-impl<'s> TypePlans<'s> {
+impl<'s, 'v> TypePlans<'s, 'v> {
     /// The plans of these shapes. It is refused for want of memory alone.
-    pub fn new(_alloc: Global, shapes: &'s Shapes) -> Result<TypePlans<'s>, OutOfMemory>
+    pub fn new(_alloc: Global, shapes: &'s Shapes<'v>) -> Result<TypePlans<'s, 'v>, OutOfMemory>
         ensures { IfOk result (λ plans. plans.shapes ≡ shapes.entry) }
     {
         Ok(TypePlans { shapes })
     }
 
     /// The registry that the plans were made of.
-    pub fn shapes(&self) -> &'s Shapes
+    pub fn shapes(&self) -> &'s Shapes<'v>
         ensures { result ≡ self.now.shapes }
     {
         self.shapes

@@ -40,7 +40,10 @@ pub(crate) fn takes_signed(scalar: ScalarType, number: i128) -> bool
     }
 }
 
-fn unsigned_value<'de>(target: Target<'_>, number: u128) -> Result<Value<'de>, DeserializeErrorKind>
+fn unsigned_value<'de>(
+    target: Target<'_>,
+    number: u128,
+) -> Result<Value<'de>, DeserializeErrorKind<'de>>
     ensures { Gives (names_of target.entry) (cond (takes_unsigned number (target_type target.entry)) (Ok (unsigned number)) (out_of_range (pos number))) result }
 {
     if takes_unsigned(target.scalar, number) {
@@ -50,7 +53,10 @@ fn unsigned_value<'de>(target: Target<'_>, number: u128) -> Result<Value<'de>, D
     }
 }
 
-fn signed_value<'de>(target: Target<'_>, number: i128) -> Result<Value<'de>, DeserializeErrorKind>
+fn signed_value<'de>(
+    target: Target<'_>,
+    number: i128,
+) -> Result<Value<'de>, DeserializeErrorKind<'de>>
     ensures { Gives (names_of target.entry) (cond (takes_signed number (target_type target.entry)) (Ok (signed number)) (out_of_range number)) result }
 {
     if takes_signed(target.scalar, number) {
@@ -64,7 +70,7 @@ fn signed_value<'de>(target: Target<'_>, number: i128) -> Result<Value<'de>, Des
 pub(crate) fn set_unsigned<'de>(
     target: Target<'_>,
     number: u128,
-) -> Result<Value<'de>, DeserializeErrorKind>
+) -> Result<Value<'de>, DeserializeErrorKind<'de>>
     ensures { Gives (names_of target.entry) (set_number (target_shape target.entry) (target_type target.entry) (pos number)) result }
 {
     match target.scalar {
@@ -88,7 +94,10 @@ pub(crate) fn set_unsigned<'de>(
 }
 
 /// Sets a negative number.
-fn set_negative<'de>(target: Target<'_>, number: i128) -> Result<Value<'de>, DeserializeErrorKind>
+fn set_negative<'de>(
+    target: Target<'_>,
+    number: i128,
+) -> Result<Value<'de>, DeserializeErrorKind<'de>>
     requires { (n : ℕ) × (number ≡ negsuc n) }
     ensures { Gives (names_of target.entry) (set_number (target_shape target.entry) (target_type target.entry) number) result }
 {
@@ -113,7 +122,7 @@ fn set_negative<'de>(target: Target<'_>, number: i128) -> Result<Value<'de>, Des
 pub(crate) fn set_signed<'de>(
     target: Target<'_>,
     number: i128,
-) -> Result<Value<'de>, DeserializeErrorKind>
+) -> Result<Value<'de>, DeserializeErrorKind<'de>>
     ensures { Gives (names_of target.entry) (set_number (target_shape target.entry) (target_type target.entry) number) result }
 {
     match u128::try_from(number) {
@@ -126,7 +135,7 @@ pub(crate) fn set_signed<'de>(
 fn spelled<'de, T: Display>(
     target: Target<'_>,
     number: &T,
-) -> Result<Value<'de>, DeserializeErrorKind>
+) -> Result<Value<'de>, DeserializeErrorKind<'de>>
     ensures { IfSome (T.output number.now) (λ shown. Gives (names_of target.entry) (Ok (text (record { bytes = shown; borrowed = false }))) result) }
 {
     match number.to_string(target.alloc) {
@@ -139,7 +148,7 @@ fn spelled<'de, T: Display>(
 pub(crate) fn set_u64<'de>(
     target: Target<'_>,
     number: u64,
-) -> Result<Value<'de>, DeserializeErrorKind>
+) -> Result<Value<'de>, DeserializeErrorKind<'de>>
     ensures { Gives (names_of target.entry) (set_number_or_text (target_shape target.entry) (target_type target.entry) (pos number)) result }
 {
     match target.scalar {
@@ -152,7 +161,7 @@ pub(crate) fn set_u64<'de>(
 pub(crate) fn set_i64<'de>(
     target: Target<'_>,
     number: i64,
-) -> Result<Value<'de>, DeserializeErrorKind>
+) -> Result<Value<'de>, DeserializeErrorKind<'de>>
     ensures { Gives (names_of target.entry) (set_number_or_text (target_shape target.entry) (target_type target.entry) number) result }
 {
     match target.scalar {

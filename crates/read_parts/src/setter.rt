@@ -33,7 +33,7 @@ pub fn scalar_value<'de>(
     shape: ShapeId,
     scalar: ScalarValue<'de>,
     borrow: bool,
-) -> Result<Value<'de>, DeserializeErrorKind>
+) -> Result<Value<'de>, DeserializeErrorKind<'de>>
     requires known { shape.0 < length (registry shapes.now) }
     requires scalar { IsSome (scalar_at (registry shapes.now) shape.0) }
     ensures { IfSome (scalar_at (registry shapes.now) shape.0) (λ t. Gives (names_at (registry shapes.now) shape.0 t (event_name scalar.entry)) (set_scalar borrow shape.0 t (scalar_of scalar.entry)) result) }
@@ -49,7 +49,7 @@ pub fn scalar_value<'de>(
 }
 
 /// The name of the shape, or the empty text where there is no such shape.
-fn name_of(shapes: &Shapes, shape: ShapeId) -> &str
+fn name_of<'s>(shapes: &'s Shapes, shape: ShapeId) -> &'s str
     ensures { result.now ≡ name_at (registry shapes.now) shape.0 }
 {
     match shapes.get(shape) {
@@ -73,7 +73,7 @@ fn set<'de>(
     target: Target<'_>,
     scalar: ScalarValue<'de>,
     borrow: bool,
-) -> Result<Value<'de>, DeserializeErrorKind>
+) -> Result<Value<'de>, DeserializeErrorKind<'de>>
     ensures { Gives (names_of target.entry) (set_scalar borrow (target_shape target.entry) (target_type target.entry) (scalar_of scalar.entry)) result }
 {
     match scalar {
@@ -90,7 +90,7 @@ fn set<'de>(
 }
 
 /// What a scalar type has where nothing is told.
-fn default_value<'de>(target: Target<'_>) -> Result<Value<'de>, DeserializeErrorKind>
+fn default_value<'de>(target: Target<'_>) -> Result<Value<'de>, DeserializeErrorKind<'de>>
     ensures { Gives (names_of target.entry) (Ok (scalar_default (target_type target.entry))) result }
 {
     match target.scalar.default_value(target.alloc) {
@@ -99,7 +99,7 @@ fn default_value<'de>(target: Target<'_>) -> Result<Value<'de>, DeserializeError
     }
 }
 
-fn set_bool<'de>(target: Target<'_>, told: bool) -> Result<Value<'de>, DeserializeErrorKind>
+fn set_bool<'de>(target: Target<'_>, told: bool) -> Result<Value<'de>, DeserializeErrorKind<'de>>
     ensures { Gives (names_of target.entry) (set_bool (target_shape target.entry) (target_type target.entry) told) result }
 {
     match target.scalar {
@@ -108,7 +108,7 @@ fn set_bool<'de>(target: Target<'_>, told: bool) -> Result<Value<'de>, Deseriali
     }
 }
 
-fn set_char<'de>(target: Target<'_>, letter: char) -> Result<Value<'de>, DeserializeErrorKind>
+fn set_char<'de>(target: Target<'_>, letter: char) -> Result<Value<'de>, DeserializeErrorKind<'de>>
     ensures { Gives (names_of target.entry) (set_char (target_shape target.entry) (target_type target.entry) letter) result }
 {
     match target.scalar {

@@ -23,7 +23,7 @@ pub(crate) struct Target<'t> {
 }
 
 /// Want of memory.
-pub(crate) fn out_of_memory() -> DeserializeErrorKind
+pub(crate) fn out_of_memory<'e>() -> DeserializeErrorKind<'e>
     ensures { IsWantOfMemory result }
 {
     DeserializeErrorKind::Alloc {
@@ -43,7 +43,7 @@ impl<'t> Target<'t> {
     }
 
     /// The type takes no such event.
-    pub(crate) fn wrong_kind(self) -> DeserializeErrorKind
+    pub(crate) fn wrong_kind<'e>(self) -> DeserializeErrorKind<'e>
         ensures { Refuses (names_of self.entry) (reflect (wrong_kind (target_shape self.entry))) result }
     {
         match self.shape_name() {
@@ -59,7 +59,7 @@ impl<'t> Target<'t> {
     }
 
     /// The text is none of the type's values.
-    pub(crate) fn parse_failed(self, text: &str) -> DeserializeErrorKind
+    pub(crate) fn parse_failed<'e>(self, text: &str) -> DeserializeErrorKind<'e>
         ensures { Refuses (names_of self.entry) (reflect (parse_failed (target_shape self.entry) text.now)) result }
     {
         let Ok(shape) = self.shape_name() else {
@@ -75,7 +75,7 @@ impl<'t> Target<'t> {
     }
 
     /// The number isn't in the range of the type.
-    pub(crate) fn out_of_range<T: Display>(self, number: &T) -> DeserializeErrorKind
+    pub(crate) fn out_of_range<'e, T: Display>(self, number: &T) -> DeserializeErrorKind<'e>
         ensures { IfSome (T.output number.now) (λ text. Refuses (names_of self.entry) (number_out_of_range text) result) }
     {
         match number.to_string(self.alloc) {
@@ -88,7 +88,7 @@ impl<'t> Target<'t> {
     }
 
     /// A text that isn't borrowed, or may not be.
-    pub(crate) fn cannot_borrow(self) -> DeserializeErrorKind
+    pub(crate) fn cannot_borrow<'e>(self) -> DeserializeErrorKind<'e>
         ensures { Refuses (names_of self.entry) cannot_borrow result }
     {
         DeserializeErrorKind::CannotBorrow {

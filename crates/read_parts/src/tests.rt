@@ -22,7 +22,7 @@ enum Want {
 /// The answers of the types from one to another; every type that stands in none takes no such event.
 type Answers = (usize, usize, Want);
 
-fn registry(alloc: Global) -> Result<Shapes, Fail> {
+fn registry<'v>(alloc: Global) -> Result<Shapes<'v>, Fail> {
     let builder = ShapesBuilder::new(alloc)?;
     Ok(builder.check(alloc)?)
 }

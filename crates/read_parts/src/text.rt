@@ -102,7 +102,7 @@ fn set_parsed<'de>(
     target: Target<'_>,
     text: &str,
     value: Option<Value<'de>>,
-) -> Result<Value<'de>, DeserializeErrorKind>
+) -> Result<Value<'de>, DeserializeErrorKind<'de>>
     ensures { Gives (names_of target.entry) (parsed (target_shape target.entry) text.now (option_map tree_of value.entry)) result }
 {
     match value {
@@ -116,7 +116,7 @@ fn text_value<'de>(
     target: Target<'_>,
     text: Text<'de>,
     borrow: bool,
-) -> Result<Value<'de>, DeserializeErrorKind>
+) -> Result<Value<'de>, DeserializeErrorKind<'de>>
     ensures { Gives (names_of target.entry) (Ok (text_tree (kept borrow (phrase_of text.entry)))) result }
 {
     if borrow || !text.is_borrowed() {
@@ -133,7 +133,7 @@ fn borrowed_value<'de>(
     target: Target<'_>,
     text: Text<'de>,
     borrow: bool,
-) -> Result<Value<'de>, DeserializeErrorKind>
+) -> Result<Value<'de>, DeserializeErrorKind<'de>>
     ensures { Gives (names_of target.entry) (lent borrow (phrase_of text.entry)) result }
 {
     if borrow && text.is_borrowed() {
@@ -171,7 +171,7 @@ pub(crate) fn set_text<'de>(
     target: Target<'_>,
     text: Text<'de>,
     borrow: bool,
-) -> Result<Value<'de>, DeserializeErrorKind>
+) -> Result<Value<'de>, DeserializeErrorKind<'de>>
     ensures { Gives (names_of target.entry) (set_text borrow (target_shape target.entry) (target_type target.entry) (phrase_of text.entry)) result }
 {
     match target.scalar {

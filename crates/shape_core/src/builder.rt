@@ -21,14 +21,17 @@ use std::alloc::Global;
 use std::marker::Model;
 
 /// Shapes that are being named and defined, by their numbers. The first seventeen are the scalars.
+///
+/// `'v` is how long texts of declared defaults are borrowed.
 #[derive(Drop)]
-pub struct ShapesBuilder {
+pub struct ShapesBuilder<'v> {
     alloc: Global,
-    drafts: Vec<Draft>,
+    drafts: Vec<Draft<'v>>,
 }
 
-impl Model for ShapesBuilder {
-    ghost use Rattle.std.specs.Prelude.{List};
+impl<'v> Model for ShapesBuilder<'v> {
+    ghost use mir.Syntax.{static};
+    ghost use Rattle.std.specs.Prelude.{List, []};
     ghost use Rattle.std.specs.Coded.{coded_list};
     ghost use Rattle.shape_core.specs.declared.draft.Draft.{Draft};
     ghost use Rattle.shape_core.specs.contracts.draft.Draft.{the_row};
@@ -36,16 +39,16 @@ impl Model for ShapesBuilder {
 
     ghost Value = { List Draft };
 
-    ghost coded = { coded_list the_row.coded };
+    ghost coded = { coded_list (the_row (record { mir = static; lft = [] })).coded };
 
     ghost view = { λ b. b.drafts.items };
 
     ghost invariant = { λ b. IsDraftList b.drafts.items };
 }
 
-impl ShapesBuilder {
+impl<'v> ShapesBuilder<'v> {
     /// A builder that holds the scalars, in the order of [`ScalarType::ALL`].
-    pub fn new(alloc: Global) -> Result<ShapesBuilder, OutOfMemory>
+    pub fn new(alloc: Global) -> Result<ShapesBuilder<'v>, OutOfMemory>
         ensures { IfOk result (λ builder. drafts_of builder ≡ scalar_drafts) }
     {
         let drafts = scalar_drafts(alloc)?;
@@ -78,10 +81,10 @@ impl ShapesBuilder {
     }
 
     /// Says what a named shape is made of, in place of what was said before. It takes no memory.
-    pub fn define(&mut self, id: ShapeId, def: Def)
+    pub fn define(&mut self, id: ShapeId, def: Def<'v>)
         requires scalars { 17 ≤ id.0 }
         requires named { id.0 < length (drafts_of self.old) }
-        ensures { IfSome (slice_get (drafts_of self.old) id.0) (λ draft. drafts_of self.new ≡ slice_set (drafts_of self.old) id.0 (redefined draft (definition_of def))) }
+        ensures { IfSome (slice_get (drafts_of self.old) id.0) (λ draft. drafts_of self.new ≡ slice_set (drafts_of self.old) id.0 (redefined draft (definition_of def.entry))) }
     {
         redefine(&mut self.drafts[id.0 as usize], def);
     }
@@ -89,10 +92,10 @@ impl ShapesBuilder {
     /// The registry of these shapes.
     ///
     /// Where a rule is broken, `Fault` names the least such shape and the first of the rules that it breaks.
-    pub fn check(self, alloc: Global) -> Result<Shapes, CheckFault>
-        ensures sound { IfOk result (λ shapes. NoFault (drafts_of self)) }
-        ensures shapes { IfOk result (λ shapes. map drafted (registry shapes) ≡ drafts_of self) }
-        ensures cause { IfErr result (λ fault. IsCheckFault (drafts_of self) fault) }
+    pub fn check(self, alloc: Global) -> Result<Shapes<'v>, CheckFault>
+        ensures sound { IfOk result (λ shapes. NoFault (drafts_of self.entry)) }
+        ensures shapes { IfOk result (λ shapes. map drafted (registry shapes) ≡ drafts_of self.entry) }
+        ensures cause { IfErr result (λ fault. IsCheckFault (drafts_of self.entry) fault) }
     {
         let ShapesBuilder { alloc: _, drafts } = self;
         if let Some(fault) = first_fault(&drafts) {
@@ -104,7 +107,7 @@ impl ShapesBuilder {
     }
 }
 
-fn scalar_drafts(alloc: Global) -> Result<Vec<Draft>, OutOfMemory>
+fn scalar_drafts<'v>(alloc: Global) -> Result<Vec<Draft<'v>>, OutOfMemory>
     ensures { IfOk result (λ drafts. drafts_of drafts.items ≡ scalar_drafts) }
 {
     let mut drafts = Vec::new(alloc);
@@ -119,23 +122,23 @@ fn scalar_drafts(alloc: Global) -> Result<Vec<Draft>, OutOfMemory>
     Ok(drafts)
 }
 
-fn push_draft(drafts: &mut Vec<Draft>, draft: Draft) -> Result<(), OutOfMemory>
-    ensures ok { OnOk result (drafts.new.items ≡ drafts.old.items ++ draft ∷ []) }
+fn push_draft<'v>(drafts: &mut Vec<Draft<'v>>, draft: Draft<'v>) -> Result<(), OutOfMemory>
+    ensures ok { OnOk result (drafts.new.items ≡ drafts.old.items ++ draft.entry ∷ []) }
     ensures err { OnErr result (drafts.new.items ≡ drafts.old.items) }
 {
     drafts.push(draft)?;
     Ok(())
 }
 
-fn redefine(draft: &mut Draft, def: Def)
-    ensures { draft_of draft.new ≡ redefined (draft_of draft.old) (definition_of def) }
+fn redefine<'v>(draft: &mut Draft<'v>, def: Def<'v>)
+    ensures { draft_of draft.new ≡ redefined (draft_of draft.old) (definition_of def.entry) }
 {
     draft.def = Some(def);
 }
 
 /// The shapes that are defined.
-fn finished(alloc: Global, drafts: Vec<Draft>) -> Result<Items<Shape>, OutOfMemory>
-    ensures { IfOk result (λ shapes. registry shapes ≡ filter_map finished (drafts_of drafts.items)) }
+fn finished<'v>(alloc: Global, drafts: Vec<Draft<'v>>) -> Result<Items<Shape<'v>>, OutOfMemory>
+    ensures { IfOk result (λ shapes. registry shapes ≡ filter_map finished (drafts_of drafts.entry.items)) }
 {
     let mut shapes = Items::new(alloc);
     for draft in drafts {

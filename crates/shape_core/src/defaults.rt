@@ -16,7 +16,7 @@ use crate::text::Text;
 use crate::value::Value;
 use std::alloc::Global;
 
-impl Shapes {
+impl Shapes<'_> {
     /// The value that the shape has by itself: false, 0 and the like of a scalar, an option that holds nothing, an
     /// empty list, set or map, and what a struct declares. None for a result, an array, an enum, and a struct that
     /// declares nothing. A transparent shape has what its inner one has.

@@ -3,9 +3,9 @@ use crate::field::StructDef;
 use crate::scalar::ScalarType;
 use crate::shape::ShapeId;
 
-/// What a shape is made of.
+/// What a shape is made of. `'v` is how long texts of declared defaults are borrowed.
 #[derive(Debug, Drop)]
-pub enum Def {
+pub enum Def<'v> {
     /// A single thing.
     Scalar(ScalarType),
     /// A value of the shape, or nothing.
@@ -36,9 +36,9 @@ pub enum Def {
         value: ShapeId,
     },
     /// Fields.
-    Struct(StructDef),
+    Struct(StructDef<'v>),
     /// One of several variants.
-    Enum(EnumDef),
+    Enum(EnumDef<'v>),
     /// The values of another shape, under a name of its own.
     Transparent(ShapeId),
 }

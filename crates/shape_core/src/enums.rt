@@ -13,9 +13,9 @@ pub enum VariantMode {
     Untagged,
 }
 
-/// A variant of an enum.
+/// A variant of an enum. `'v` is how long texts of declared defaults are borrowed.
 #[derive(Debug, Drop)]
-pub struct Variant {
+pub struct Variant<'v> {
     /// Its declared name.
     pub name: Name,
     /// The name that is written and read in place of the declared one.
@@ -23,7 +23,7 @@ pub struct Variant {
     /// The form of its fields.
     pub kind: StructKind,
     /// Its fields, in their order.
-    pub fields: Items<Field>,
+    pub fields: Items<Field<'v>>,
     /// Its number.
     pub discriminant: Option<i64>,
     /// How it is chosen.
@@ -70,11 +70,11 @@ pub enum EnumForm {
     Cow,
 }
 
-/// What an enum is made of.
+/// What an enum is made of. `'v` is how long texts of declared defaults are borrowed.
 #[derive(Debug, Drop)]
-pub struct EnumDef {
+pub struct EnumDef<'v> {
     /// How its variants are told apart.
     pub form: EnumForm,
     /// Its variants, in their order.
-    pub variants: Items<Variant>,
+    pub variants: Items<Variant<'v>>,
 }

@@ -42,9 +42,9 @@ pub enum MetaKind {
     Tag,
 }
 
-/// A field of a struct or a variant.
+/// A field of a struct or a variant. `'v` is how long texts of declared defaults are borrowed.
 #[derive(Debug, Drop)]
-pub struct Field {
+pub struct Field<'v> {
     /// Its declared name. A tuple's item has its place, in decimal.
     pub name: Name,
     /// The name that is written and read in place of the declared one.
@@ -54,7 +54,7 @@ pub struct Field {
     /// The shape of its values.
     pub shape: ShapeId,
     /// The value that it has where it is absent.
-    pub default: Option<Value<'static>>,
+    pub default: Option<Value<'v>>,
     /// When it isn't written.
     pub skip: SkipRule,
     /// Whether its own fields or entries stand in the object of its struct.
@@ -65,17 +65,17 @@ pub struct Field {
     pub proxy: Option<u32>,
 }
 
-/// What a struct is made of.
+/// What a struct is made of. `'v` is how long texts of declared defaults are borrowed.
 #[derive(Debug, Drop)]
-pub struct StructDef {
+pub struct StructDef<'v> {
     /// Its form.
     pub kind: StructKind,
     /// Its fields, in their order.
-    pub fields: Items<Field>,
+    pub fields: Items<Field<'v>>,
     /// Whether an unknown key is refused.
     pub deny_unknown_fields: bool,
     /// The value from which absent fields are taken.
-    pub default: Option<Value<'static>>,
+    pub default: Option<Value<'v>>,
     /// Whether it is a container: one value with metadata about it.
     pub container: bool,
 }

@@ -22,9 +22,9 @@ fn transparent_of(def: &Def) -> Option<ShapeId>
     }
 }
 
-impl Shapes {
+impl<'v> Shapes<'v> {
     /// What the shape is made of. None where there is no such shape.
-    pub fn definition_at(&self, id: ShapeId) -> Option<&Def>
+    pub fn definition_at(&self, id: ShapeId) -> Option<&Def<'v>>
         ensures { option_map definition_of (option_copied result) ≡ definition_at (registry self.now) id.0 }
     {
         match self.get(id) {
@@ -36,7 +36,7 @@ impl Shapes {
     /// What the values of the shape are made of: the definition behind transparent shapes.
     ///
     /// None where there is no such shape, or only transparent ones in a circle.
-    pub fn base(&self, id: ShapeId) -> Option<&Def>
+    pub fn base(&self, id: ShapeId) -> Option<&Def<'v>>
         ensures { option_map definition_of (option_copied result) ≡ base (registry self.now) id.0 }
     {
         let mut at = id;
@@ -114,7 +114,7 @@ impl Shapes {
     }
 
     /// What a struct is made of, where the shape is of structs.
-    pub fn struct_at(&self, id: ShapeId) -> Option<&StructDef>
+    pub fn struct_at(&self, id: ShapeId) -> Option<&StructDef<'v>>
         ensures { option_map struct_shape_of (option_copied result) ≡ struct_at (registry self.now) id.0 }
     {
         match self.base(id) {

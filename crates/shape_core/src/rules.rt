@@ -93,12 +93,12 @@ fn has_field_name(field: &Field, others: &[Field]) -> bool
 fn repeats_field(fields: &[Field]) -> bool
     ensures { result ≡ repeats_field (map field_of fields.now) }
 {
-    let mut left = fields;
-    while let Some((first, rest)) = left.split_first() {
+    let mut left = fields.iter();
+    while let Some(first) = left.next() {
+        let rest = left.as_slice();
         if has_field_name(first, rest) {
             return true;
         }
-        left = rest;
     }
     false
 }
@@ -121,12 +121,12 @@ fn has_variant_name(variant: &Variant, others: &[Variant]) -> bool
 fn variants_repeat(variants: &[Variant]) -> bool
     ensures { result ≡ has_pair (λ v w. bytes_eq v.name w.name) (map variant_of variants.now) }
 {
-    let mut left = variants;
-    while let Some((first, rest)) = left.split_first() {
+    let mut left = variants.iter();
+    while let Some(first) = left.next() {
+        let rest = left.as_slice();
         if has_variant_name(first, rest) {
             return true;
         }
-        left = rest;
     }
     false
 }

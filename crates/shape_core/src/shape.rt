@@ -6,13 +6,13 @@ use std::fmt;
 #[derive(Debug, Clone, Copy, PartialEq, Eq)]
 pub struct ShapeId(pub u32);
 
-/// What describes a type.
+/// What describes a type. `'v` is how long texts of declared defaults are borrowed.
 #[derive(Debug, Drop)]
-pub struct Shape {
+pub struct Shape<'v> {
     /// Its name, which no other shape of the registry has.
     pub name: Name,
     /// What it is made of.
-    pub def: Def,
+    pub def: Def<'v>,
     /// The number of the proxy that stands for it.
     pub proxy: Option<u32>,
 }

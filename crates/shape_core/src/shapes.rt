@@ -10,14 +10,16 @@ use std::marker::Model;
 
 /// A checked registry: shapes by their numbers, which keep every rule of [`crate::ShapeFaultKind`].
 ///
-/// The first seventeen are the scalars, in the order of [`crate::ScalarType::ALL`].
+/// The first seventeen are the scalars, in the order of [`crate::ScalarType::ALL`]. `'v` is how long texts of declared
+/// defaults are borrowed.
 #[derive(Drop)]
-pub struct Shapes {
-    shapes: Items<Shape>,
+pub struct Shapes<'v> {
+    shapes: Items<Shape<'v>>,
 }
 
-impl Model for Shapes {
-    ghost use Rattle.std.specs.Prelude.{List};
+impl<'v> Model for Shapes<'v> {
+    ghost use mir.Syntax.{static};
+    ghost use Rattle.std.specs.Prelude.{List, []};
     ghost use Rattle.std.specs.Coded.{coded_list};
     ghost use Rattle.shape_core.specs.declared.shape.Shape.{Shape};
     ghost use Rattle.shape_core.specs.contracts.shape.Shape.{the_row};
@@ -26,24 +28,24 @@ impl Model for Shapes {
 
     ghost Value = { List Shape };
 
-    ghost coded = { coded_list the_row.coded };
+    ghost coded = { coded_list (the_row (record { mir = static; lft = [] })).coded };
 
     ghost view = { λ s. s.shapes };
 
     ghost invariant = { λ s. IsRegistry (registry s.shapes) };
 }
 
-impl Shapes {
+impl<'v> Shapes<'v> {
     /// The shapes of a registry that keeps every rule.
-    pub(crate) fn from_items(shapes: Items<Shape>) -> Shapes
+    pub(crate) fn from_items(shapes: Items<Shape<'v>>) -> Shapes<'v>
         requires { IsRegistry (registry shapes) }
-        ensures { result ≡ shapes }
+        ensures { result ≡ shapes.entry }
     {
         Shapes { shapes }
     }
 
     /// The shape of this number. None where there is no such shape.
-    pub fn get(&self, id: ShapeId) -> Option<&Shape>
+    pub fn get(&self, id: ShapeId) -> Option<&Shape<'v>>
         ensures declared { option_copied result ≡ slice_get self.now id.0 }
         ensures shape { option_map shape_of (option_copied result) ≡ slice_get (registry self.now) id.0 }
     {
@@ -67,7 +69,7 @@ impl Shapes {
     }
 
     /// The shapes in the order of their numbers.
-    pub fn as_slice(&self) -> &[Shape]
+    pub fn as_slice(&self) -> &[Shape<'v>]
         ensures { result.now ≡ self.now }
     {
         self.shapes.as_slice()

@@ -1,6 +1,6 @@
 //! Which values are of a shape.
 ghost use Rattle.std.specs.Prelude.{◌≡◌, ◌<◌, ◌∷◌, ◌==◌, map, length, option_map, IsTrue};
-ghost use Rattle.semantics.specs.Trees.{list, trees_of};
+ghost use Rattle.semantics.specs.Trees.{char_value, list, trees_of};
 ghost use Rattle.semantics.specs.Typed.{takes_unit, takes_bool, takes_char, takes_unsigned, takes_signed, takes_text, has_length, typed, each_typed, fields_typed, tree_is_utf8, trees_are_utf8};
 ghost use Rattle.shape_core.specs.Scalars.{scalar_type_of};
 ghost use Rattle.shape_core.specs.Shapes.{field_of, registry};
@@ -12,11 +12,11 @@ use crate::shape::ShapeId;
 use crate::shapes::Shapes;
 use crate::value::Value;
 
-impl Shapes {
+impl Shapes<'_> {
     /// Whether the value is of the shape: numbers are in range, an array has its length, and a struct has one value
     /// for each field.
     ///
-    /// The texts of such a value are UTF-8.
+    /// The texts of such a value are UTF-8, and its characters are characters.
     pub fn types(&self, id: ShapeId, value: &Value<'_>) -> bool
         requires { id.0 < length (registry self.now) }
         ensures typed { result ≡ typed (registry self.now) id.0 (tree_of value.now) }
@@ -86,6 +86,16 @@ fn takes_signed(number: i128, scalar: ScalarType) -> bool
     }
 }
 
+fn char_is_typed(shapes: &Shapes, id: ShapeId, letter: char) -> bool
+    ensures typed { result ≡ typed (registry shapes.now) id.0 (char_value letter) }
+    ensures utf8 { IsTrue (tree_is_utf8 (char_value letter)) }
+{
+    match shapes.scalar_at(id) {
+        Some(scalar) => takes_char(scalar),
+        None => false,
+    }
+}
+
 #[cycle(typed)]
 fn is_typed(shapes: &Shapes, id: ShapeId, value: &Value<'_>) -> bool
     ensures typed { result ≡ typed (registry shapes.now) id.0 (tree_of value.now) }
@@ -100,10 +110,7 @@ fn is_typed(shapes: &Shapes, id: ShapeId, value: &Value<'_>) -> bool
             Some(scalar) => takes_bool(scalar),
             None => false,
         },
-        Value::Char(_) => match shapes.scalar_at(id) {
-            Some(scalar) => takes_char(scalar),
-            None => false,
-        },
+        Value::Char(letter) => char_is_typed(shapes, id, *letter),
         Value::Unsigned(number) => match shapes.scalar_at(id) {
             Some(scalar) => takes_unsigned(*number, scalar),
             None => false,

@@ -11,13 +11,13 @@ use crate::event::event_of;
 use event_core::{DeserializeErrorKind, ParseError, ParseEvent, Span};
 use std::alloc::Global;
 
-/// Why no event was read.
+/// Why no event was read. `'e` is how long the texts of the fault are borrowed.
 #[derive(Drop)]
-pub enum Stop {
+pub enum Stop<'e> {
     /// No memory was there for a text of the line.
     NoMemory,
     /// No event has this line.
-    Bad(ParseError),
+    Bad(ParseError<'e>),
 }
 
 /// The first character of a line, a line feed where it is empty.
@@ -31,7 +31,7 @@ fn first_char(line: &str) -> char
 }
 
 /// The first bytes of a line that isn't UTF-8, up to 16.
-fn not_utf8(line: &[u8]) -> DeserializeErrorKind
+fn not_utf8<'e>(line: &[u8]) -> DeserializeErrorKind<'e>
     ensures { fault_kind_of result ≡ invalid_utf8 (take 16 line.now) }
 {
     let mut context = [0; 16];
@@ -44,7 +44,7 @@ fn not_utf8(line: &[u8]) -> DeserializeErrorKind
 }
 
 /// The fault of a text that is no line.
-fn no_line(line: &str, span: Span) -> ParseError
+fn no_line<'e>(line: &str, span: Span) -> ParseError<'e>
     ensures { parse_fault result ≡ record { kind = unexpected_char (first_or_end (chars line.now)); span = Some (span_view span); path = None } }
 {
     let kind = DeserializeErrorKind::UnexpectedChar {
@@ -55,7 +55,7 @@ fn no_line(line: &str, span: Span) -> ParseError
 }
 
 /// The event of a line that stands at a byte of the tape, or its fault.
-fn judged<'de>(alloc: Global, line: &'de [u8], at: usize) -> Result<ParseEvent<'de>, Stop>
+fn judged<'de>(alloc: Global, line: &'de [u8], at: usize) -> Result<ParseEvent<'de>, Stop<'de>>
     ensures { JudgesLine at line.now result }
 {
     let span = Span {
@@ -81,7 +81,7 @@ fn line_end(bytes: &[u8]) -> Option<usize>
 }
 
 /// The fault of bytes that stand there with no line feed.
-fn unfinished(at: usize, len: usize) -> ParseError
+fn unfinished<'e>(at: usize, len: usize) -> ParseError<'e>
     ensures { parse_fault result ≡ record { kind = unexpected_eof; span = Some (record { offset = at; len = len }); path = None } }
 {
     let kind = DeserializeErrorKind::UnexpectedEof {
@@ -95,7 +95,7 @@ pub fn event_at<'de>(
     alloc: Global,
     input: &'de [u8],
     at: usize,
-) -> Result<Option<(ParseEvent<'de>, usize)>, Stop>
+) -> Result<Option<(ParseEvent<'de>, usize)>, Stop<'de>>
     requires { at ≤ length input.now }
     ensures { StandsAt input.now at result }
 {

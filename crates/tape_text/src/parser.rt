@@ -44,7 +44,7 @@ impl<'de> TapeParser<'de> {
     }
 
     /// What stands at its place. A fault is counted.
-    fn look(&mut self) -> Result<Option<(ParseEvent<'de>, usize)>, ParseError>
+    fn look(&mut self) -> Result<Option<(ParseEvent<'de>, usize)>, ParseError<'de>>
         ensures stands { LooksAt self.old.input self.old.at result }
         ensures kept { self.new ≡ record self.old { faults = self.new.faults } }
         ensures cause { HasCause self.old.faults self.new.faults result }
@@ -61,7 +61,7 @@ impl<'de> TapeParser<'de> {
 
     /// Puts the next event behind those of the buffer, and answers whether there was one.
     #[tactic(auto, using(crate::proofs::Taking::puts, crate::proofs::Taking::puts_none, crate::proofs::Taking::fails, crate::proofs::Taking::meets))]
-    fn put_next(&mut self, buf: &mut VecDeque<ParseEvent<'de>>) -> Result<bool, ParseError>
+    fn put_next(&mut self, buf: &mut VecDeque<ParseEvent<'de>>) -> Result<bool, ParseError<'de>>
         ensures put { IfOk result (λ put. PutNext put (parsing_of self.old) (parsing_of self.new) buf.old.items buf.new.items) }
         ensures stays { OnErr result (buf.new.items ≡ buf.old.items) }
         ensures failed { OnErr result (Failed (parsing_of self.old) (parsing_of self.new)) }
@@ -83,7 +83,7 @@ impl<'de> TapeParser<'de> {
 }
 
 /// No memory was there for the event of a line.
-fn no_memory(at: usize, operation: &'static str) -> ParseError
+fn no_memory(at: usize, operation: &str) -> ParseError<'_>
     ensures { IsMemory result }
 {
     let kind = DeserializeErrorKind::Alloc { operation };
@@ -91,10 +91,17 @@ fn no_memory(at: usize, operation: &'static str) -> ParseError
 }
 
 impl<'de> FormatParser<'de> for TapeParser<'de> {
+    ghost use Rattle.std.specs.Prelude.{true};
+    ghost use Rattle.std.proofs.Common.{refl};
+
     ghost parsing = { λ p. parsing_of p };
 
+    ghost tells = { true };
+
+    ghost told = { λ p _. refl };
+
     #[tactic(auto, using(crate::proofs::Taking::takes, crate::proofs::Taking::keeps, crate::proofs::Taking::fails, crate::proofs::Taking::ended, crate::proofs::Taking::meets))]
-    fn next_event(&mut self) -> Result<Option<ParseEvent<'de>>, ParseError> {
+    fn next_event(&mut self) -> Result<Option<ParseEvent<'de>>, ParseError<'de>> {
         match self.look() {
             Ok(Some((event, next))) => {
                 self.at = next;
@@ -105,12 +112,12 @@ impl<'de> FormatParser<'de> for TapeParser<'de> {
         }
     }
 
-    #[tactic(auto, using(crate::proofs::Taking::put_first, crate::proofs::Taking::put_another, crate::proofs::Taking::put_last, crate::proofs::Taking::put_end, crate::proofs::Taking::put_refuses))]
+    #[tactic(auto, using(crate::proofs::Taking::put_first, crate::proofs::Taking::put_another, crate::proofs::Taking::put_last, crate::proofs::Taking::put_end))]
     fn next_events(
         &mut self,
         buf: &mut VecDeque<ParseEvent<'de>>,
         limit: usize,
-    ) -> Result<usize, ParseError> {
+    ) -> Result<usize, ParseError<'de>> {
         let mut count = 0;
         'events: while count < limit {
             match self.put_next(buf) {
@@ -123,7 +130,7 @@ impl<'de> FormatParser<'de> for TapeParser<'de> {
     }
 
     #[tactic(auto, using(crate::proofs::Taking::keeps, crate::proofs::Taking::fails, crate::proofs::Taking::ended, crate::proofs::Taking::meets, crate::proofs::Taking::sees, crate::proofs::Taking::sees_none))]
-    fn peek_event(&mut self) -> Result<Option<ParseEvent<'de>>, ParseError> {
+    fn peek_event(&mut self) -> Result<Option<ParseEvent<'de>>, ParseError<'de>> {
         match self.look() {
             Ok(Some((event, _))) => Ok(Some(event)),
             Ok(None) => Ok(None),

@@ -80,7 +80,7 @@ fn shown(alloc: Global, event: &ParseEvent<'_>) -> Result<String, AllocError> {
 
 fn text_of(
     alloc: Global,
-    answer: Result<Option<ParseEvent<'_>>, ParseError>,
+    answer: Result<Option<ParseEvent<'_>>, ParseError<'_>>,
 ) -> Result<String, AllocError> {
     match answer {
         Ok(Some(event)) => shown(alloc, &event),

@@ -16,7 +16,7 @@ fn places_and_paths_print(rt: HostRuntime) -> Result<(), Fail> {
     shows(&rt, alloc, path(alloc)?, ".a[3]::Ok")
 }
 
-fn simple() -> [(DeserializeErrorKind, &'static str); 12] {
+fn simple() -> [(DeserializeErrorKind<'static>, &'static str); 12] {
     [
         (
             DeserializeErrorKind::UnexpectedChar {
@@ -134,7 +134,7 @@ fn faults_name_shapes(rt: HostRuntime) -> Result<(), Fail> {
     shows(&rt, alloc, refused, "Point has no default (while filling)")
 }
 
-fn refusal(alloc: Global, kind: ReflectErrorKind) -> ReflectError {
+fn refusal(alloc: Global, kind: ReflectErrorKind<'_>) -> ReflectError<'_> {
     ReflectError {
         path: Path::new(alloc),
         kind,

@@ -31,7 +31,12 @@ fn named<'a>(fields: &'a [(&'a str, u32)]) -> Form<'a> {
     Form::Fields(StructKind::Struct, fields)
 }
 
-fn field(alloc: Global, name: &str, shape: ShapeId, flatten: bool) -> Result<Field, OutOfMemory> {
+fn field<'v>(
+    alloc: Global,
+    name: &str,
+    shape: ShapeId,
+    flatten: bool,
+) -> Result<Field<'v>, OutOfMemory> {
     let name = Name::copy(alloc, name)?;
     Ok(Field {
         name,
@@ -46,7 +51,7 @@ fn field(alloc: Global, name: &str, shape: ShapeId, flatten: bool) -> Result<Fie
     })
 }
 
-fn structure(kind: StructKind, fields: Items<Field>, deny: bool) -> Def {
+fn structure(kind: StructKind, fields: Items<Field<'_>>, deny: bool) -> Def<'_> {
     Def::Struct(StructDef {
         kind,
         fields,
@@ -56,7 +61,7 @@ fn structure(kind: StructKind, fields: Items<Field>, deny: bool) -> Def {
     })
 }
 
-fn fields(alloc: Global, rows: &[(&str, u32)]) -> Result<Items<Field>, OutOfMemory> {
+fn fields<'v>(alloc: Global, rows: &[(&str, u32)]) -> Result<Items<Field<'v>>, OutOfMemory> {
     let mut fields = Items::new(alloc);
     for (name, shape) in rows {
         fields.push(field(alloc, name, ShapeId(*shape), false)?)?;
@@ -64,14 +69,14 @@ fn fields(alloc: Global, rows: &[(&str, u32)]) -> Result<Items<Field>, OutOfMemo
     Ok(fields)
 }
 
-fn flattened(alloc: Global) -> Result<Items<Field>, OutOfMemory> {
+fn flattened<'v>(alloc: Global) -> Result<Items<Field<'v>>, OutOfMemory> {
     let mut fields = Items::new(alloc);
     fields.push(field(alloc, "x", ShapeId(6), true)?)?;
     Ok(fields)
 }
 
 /// The definition that a row tells of.
-fn definition(alloc: Global, form: Form<'_>) -> Result<Option<Def>, OutOfMemory> {
+fn definition<'v>(alloc: Global, form: Form<'_>) -> Result<Option<Def<'v>>, OutOfMemory> {
     Ok(Some(match form {
         Form::Missing => return Ok(None),
         Form::Fields(kind, rows) => structure(kind, fields(alloc, rows)?, false),
@@ -101,7 +106,7 @@ fn definition(alloc: Global, form: Form<'_>) -> Result<Option<Def>, OutOfMemory>
 }
 
 /// A builder of these shapes, the first of which has number 17.
-fn builder(alloc: Global, rows: &[(&str, Form<'_>)]) -> Result<ShapesBuilder, NameFault> {
+fn builder<'v>(alloc: Global, rows: &[(&str, Form<'_>)]) -> Result<ShapesBuilder<'v>, NameFault> {
     let mut builder = ShapesBuilder::new(alloc)?;
     for (name, form) in rows {
         let id = builder.name(name)?;
@@ -145,7 +150,7 @@ const FORMS: [(&str, Form<'static>); 11] = [
     ),
 ];
 
-pub fn forms(alloc: Global) -> Result<Shapes, Fail> {
+pub fn forms<'v>(alloc: Global) -> Result<Shapes<'v>, Fail> {
     Ok(builder(alloc, &FORMS)?.check(alloc)?)
 }
 
