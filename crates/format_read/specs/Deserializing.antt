@@ -1,0 +1,59 @@
+-- What a deserializer answers, in the words of the definitions.
+use Rattle.std.specs.Prelude.{◌≡◌, ◌⊎◌, ℕ, Bool, true, List, [], ◌∷◌, ◌++◌, Option, Some, None, Result, Ok, Err, IsTrue}
+use Rattle.semantics.specs.Trees.{Tree}
+use Rattle.semantics.specs.Shapes.{Registry}
+use Rattle.semantics.specs.Events.{Event, span_of}
+use Rattle.semantics.specs.Faults.{out_of_memory, Fault, ends, stops}
+use Rattle.semantics.specs.Runs.{Run, run_events}
+use Rattle.semantics.specs.Typed.{typed}
+use Rattle.semantics.specs.Reading.{Setting, from_events, read}
+use Rattle.semantics.specs.Causes.{last_span}
+use Rattle.semantics.specs.Recoding.{HasCauseFrom}
+use Rattle.event_core.specs.Events.{event_of}
+use Rattle.event_core.specs.Faults.{fault_of}
+use Rattle.event_core.specs.declared.error.DeserializeError.{DeserializeError}
+use Rattle.event_core.specs.declared.event.ParseEvent.{ParseEvent}
+use Rattle.laws_reading.specs.Input.{Input}
+
+-- memory ran out
+abbrev pub IsMemory : DeserializeError → Type 0
+IsMemory e = (fault_of e).kind ≡ out_of_memory
+
+-- why reading stopped, as an error
+abbrev pub IsStopError : Option Fault → DeserializeError → Type 0
+IsStopError None e = IsMemory e
+IsStopError (Some f) e = fault_of e ≡ f
+
+-- how values are read: by which shapes, and whether borrowed texts stay so; the parser tells what its values are
+abbrev pub setting : Registry → Bool → Setting
+setting g borrow = record { registry = g; borrow = borrow; describes_itself = true }
+
+-- The events taken are a whole run, which is read as this value within the depth. The value is of the shape, the rest is left
+-- as it was, and the last event taken is the run's last.
+pub record IsRead (g : Setting) (depth shape : ℕ) (old new : Input) (value : Tree) : Type 0 where
+  pub run : Run
+  pub cut : old.events ≡ run_events run ++ new.events
+  pub ending : new.ending ≡ old.ending
+  pub last : new.last ≡ last_span old.last (run_events run)
+  pub reads : read g depth shape from_events run ≡ Some value
+  pub of_shape : IsTrue (typed g.registry shape value)
+
+-- the answer is this value, and what comes now is the rest; or memory ran out
+abbrev pub IsAnswer : {V : Type 0} → (V → Tree) → Tree → List Event → List Event → Result V DeserializeError → Type 0
+IsAnswer tree value rest coming (Ok v) = (tree v ≡ value) × (coming ≡ rest)
+IsAnswer tree value rest coming (Err e) = IsMemory e
+
+-- whatever run comes first that is read as a value, it is answered
+abbrev pub Answers : {V : Type 0} → (V → Tree) → Setting → ℕ → ℕ → Input → Input → Result V DeserializeError → Type 0
+Answers tree g depth shape old new result = (run : Run) (rest : List Event) (value : Tree) → old.events ≡ run_events run ++ rest
+    → read g depth shape from_events run ≡ Some value → IsAnswer tree value rest new.events result
+
+-- a refusal has its cause in the events that were to come, and want of memory has none
+abbrev pub IsCaused : Setting → ℕ → ℕ → Input → DeserializeError → Type 0
+IsCaused g depth shape old e = IsMemory e ⊎ HasCauseFrom g shape depth old.last old.events old.ending (fault_of e)
+
+-- an event was taken, or none is left, or the parser's fault stands behind the last one
+abbrev pub Finishes : Input → Input → Result (Option ParseEvent) DeserializeError → Type 0
+Finishes old new (Ok (Some e)) = (old.events ≡ event_of e ∷ new.events) × (new.ending ≡ old.ending) × (new.last ≡ span_of (event_of e))
+Finishes old new (Ok None) = (old.events ≡ []) × (old.ending ≡ ends) × (new ≡ old)
+Finishes old new (Err e) = IsMemory e ⊎ ((old.events ≡ []) × (old.ending ≡ stops (fault_of e)) × (new ≡ old))

@@ -1,0 +1,104 @@
+//! Reads a whole value.
+ghost use Rattle.std.specs.Prelude.{◌≡◌, ◌<◌, ◌⊎◌, Some, [], length, nat_eq, IfOk, IfErr, IsTrue};
+ghost use Rattle.semantics.specs.Reading.{from_events};
+ghost use Rattle.event_core.specs.Faults.{fault_of};
+ghost use Rattle.shape_core.specs.Shapes.{registry};
+ghost use Rattle.shape_core.specs.Trees.{tree_of};
+ghost use Rattle.format_read.specs.Deserializers.{seat_in};
+ghost use Rattle.format_read.specs.Deserializing.{setting, IsRead, Answers, IsCaused, IsMemory, IsStopError};
+ghost use Rattle.format_read.specs.Seats.{IsLeft, HasSource};
+ghost use Rattle.format_read.specs.Sources.{terms_by};
+ghost use Rattle.format_read.specs.Stops.{told_stop, Gives};
+ghost use Rattle.format_read.specs.Values.{reading_by};
+
+use crate::deserializer::FormatDeserializer;
+use crate::stop::ReadStop;
+use crate::task::Task;
+use crate::trail::Trail;
+use crate::value::read_value;
+use event_core::{DeserializeError, DeserializeErrorKind};
+use format_traits::FormatParser;
+use laws::reads_typed;
+use laws_reading::{reading_fails, reading_means};
+use shape_core::{ShapeId, Value};
+
+impl<'parser, 'input, 's, 'v, P: FormatParser<'input>, const BORROW: u8> FormatDeserializer<
+    'parser,
+    'input,
+    's,
+    'v,
+    P,
+    BORROW,
+> {
+    /// Reads the next value, of the shape `root`, and takes just its events.
+    ///
+    /// Keys of structs may stand in any order, and unknown ones are passed over. Values may nest as deep as the
+    /// deserializer was told. Whatever is refused has the span of the last event that was taken, and a path.
+    ///
+    /// Clauses that speak of events hold over parsers that tell theirs. Over others it is safe and returns.
+    pub fn deserialize_value(
+        &mut self,
+        root: ShapeId,
+    ) -> Result<Value<'input>, DeserializeError<'input>>
+        requires { root.0 < length (registry self.old.plans.now.shapes.now) }
+
+        // The events taken are a whole run that is read as this value, and the value is of the shape.
+        ensures read { IsTrue P.tells → IfOk result (λ v. IsRead (setting (registry self.old.plans.now.shapes.now) (nat_eq BORROW 1)) self.old.depth root.0 (seat_in P.parsing self.old).input (seat_in P.parsing self.new).input (tree_of v)) }
+
+        // Whatever run comes first that is read as a value, it is answered, and no more is taken.
+        ensures answers { IsTrue P.tells → Answers tree_of (setting (registry self.old.plans.now.shapes.now) (nat_eq BORROW 1)) self.old.depth root.0 (seat_in P.parsing self.old).input (seat_in P.parsing self.new).input result }
+
+        // Each refusal has its cause in the events that were to come.
+        ensures caused { IsTrue P.tells → IfErr result (IsCaused (setting (registry self.old.plans.now.shapes.now) (nat_eq BORROW 1)) self.old.depth root.0 (seat_in P.parsing self.old).input) }
+
+        // What comes afterwards is the end of what was to come.
+        ensures left { IsLeft (seat_in P.parsing self.old) (seat_in P.parsing self.new) }
+
+        // A parser's fault is answered only where its count of faults rose.
+        ensures cause { IfErr result (λ e. IsMemory e ⊎ HasSource (Some (fault_of e)) (seat_in P.parsing self.old) (seat_in P.parsing self.new)) }
+    {
+        reading_means();
+        reading_fails();
+        reads_typed();
+        let plans = self.plans;
+        let task = Task {
+            alloc: self.alloc,
+            shapes: plans.shapes(),
+            limit: self.depth,
+        };
+        task.shapes.rules();
+        let depth = self.depth;
+        match self.read_root(&task, root, depth) {
+            Ok(value) => Ok(value),
+            Err(stop) => Err(error_of(stop)),
+        }
+    }
+
+    /// Reads a value from the deserializer's own events.
+    fn read_root(
+        &mut self,
+        task: &Task<'_, '_>,
+        root: ShapeId,
+        depth: usize,
+    ) -> Result<Value<'input>, ReadStop<'input>>
+        ensures exact { IsTrue P.tells → Gives told_stop (λ v. (tree_of v, (seat_in P.parsing self.new).input)) result (reading_by (terms_by (nat_eq BORROW 1) task.now) depth root.0 from_events [] (seat_in P.parsing self.old).input) }
+        ensures left { IsLeft (seat_in P.parsing self.old) (seat_in P.parsing self.new) }
+        ensures cause { IfErr result (λ e. HasSource (told_stop e) (seat_in P.parsing self.old) (seat_in P.parsing self.new)) }
+    {
+        read_value(task, self, root, depth, &Trail::Root)
+    }
+}
+
+/// The stop as an error.
+fn error_of<'e>(stop: ReadStop<'e>) -> DeserializeError<'e>
+    ensures { IsStopError (told_stop stop.entry) result }
+{
+    match stop {
+        ReadStop::Alloc => DeserializeError {
+            span: None,
+            path: None,
+            kind: DeserializeErrorKind::Alloc { operation: "value" },
+        },
+        ReadStop::Fault(error) => error.into_inner(),
+    }
+}
