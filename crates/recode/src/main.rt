@@ -1,4 +1,4 @@
-//! Recodes a tape by the shape of its value: `recode ROOT`, from standard input to standard output.
+//! Recodes a tape by the shape of its value: `recode ROOT [CAPACITY DEPTH]`, from standard input to standard output.
 #![tactic(auto)]
 
 use recode_top::{StreamSink, StreamSource, Words, out_of_memory, run};

@@ -13,7 +13,8 @@ use Rattle.event_core.specs.declared.error.SerializeError.{SerializeError}
 use Rattle.event_core.specs.declared.error.SerializeError.TheVariants.{Backend, Reflect, Unsupported, Internal, Alloc}
 use Rattle.format_traits.specs.Writing.{Writing}
 use Rattle.std.specs.declared.convert.Infallible.{Infallible}
-use Rattle.recode_top.specs.Wrote.{Fails, Unwrites}
+use Rattle.format_write.specs.Wrote.{Fails}
+use Rattle.recode_top.specs.Recode.{Unwrites}
 
 -- the calls come to their end exactly where there is a form, and then their tape is its tape
 abbrev Fits : Part → Written Document → Type 0

@@ -1,12 +1,7 @@
-pub mod Reader
-pub mod Wrote
 pub mod Outside
 pub mod Stopping
 pub mod Recode
-pub mod ShapeLines
-pub mod ShapePlaces
-pub mod ShapeScopes
-pub mod ShapeReading
-pub mod ShapeErrors
+pub mod RecodeTexts
+pub mod Requests
 pub mod ShapeNotes
 pub mod Running

@@ -1,21 +1,25 @@
 -- What recoding answers.
-use Rattle.std.specs.Prelude.{◌≡◌, ℕ, List, codes, Result, Ok, Err}
+use Rattle.std.specs.Prelude.{◌≡◌, ◌⊎◌, ℕ, zero, suc, List, [], codes, cond, Result, Ok, Err, IsTrue}
 use Rattle.semantics.specs.Trees.{Tree}
 use Rattle.semantics.specs.Shapes.{Registry}
-use Rattle.semantics.specs.Events.{scalar, key, named, nameless, ordered, tag, of_struct, of_sequence, Event, leaf, start, stop, span_of}
-use Rattle.semantics.specs.Faults.{Ending}
+use Rattle.semantics.specs.Events.{scalar, key, named, nameless, ordered, tag, of_struct, of_sequence, Span, no_span, Event, leaf, start, stop, span_of}
+use Rattle.semantics.specs.Faults.{Fault, Ending, ends, Coming}
 use Rattle.semantics.specs.Documents.{Document}
+use Rattle.semantics.specs.Typed.{typed}
+use Rattle.semantics.specs.Reading.{Setting, from_events, Reads}
 use Rattle.semantics.specs.Writing.{Unwritten, Written}
 use Rattle.semantics.specs.Tapes.{document_tape, IsTape}
 use Rattle.semantics.specs.Causes.{IsTrailing, HasNoForm}
-use Rattle.semantics.specs.Recoding.{tape_setting, Comes, IsReadFault}
+use Rattle.semantics.specs.Recoding.{tape_setting, Comes, HasCauseFrom, HasCause, IsFaultBehind, IsReadFault}
 use Rattle.shape_core.specs.declared.value.Value.{Value}
 use Rattle.shape_core.specs.Trees.{tree_of}
+use Rattle.event_core.specs.Building.{is_memory}
 use Rattle.event_core.specs.Faults.{fault_of}
 use Rattle.event_core.specs.Metadata.{span_view}
+use Rattle.event_core.specs.declared.error.DeserializeError.{DeserializeError}
 use Rattle.event_core.specs.declared.error.SerializeError.{SerializeError}
-use Rattle.event_core.specs.declared.error.SerializeError.TheVariants.{Unsupported}
-use Rattle.recode_top.specs.Reader.Values.{Refused, faulty, trailing}
+use Rattle.event_core.specs.declared.error.SerializeError.TheVariants.{Unsupported, Alloc}
+use Rattle.laws_reading.specs.Input.{Input, feed}
 use Rattle.recode_top.specs.declared.error.RecodeError.{RecodeError}
 use Rattle.recode_top.specs.declared.error.RecodeError.TheVariants as errors
 
@@ -31,17 +35,48 @@ event_name (start of_sequence k n) = codes "sequence start"
 event_name (stop of_struct n) = codes "struct end"
 event_name (stop of_sequence n) = codes "sequence end"
 
--- why the value of a whole tape wasn't read, or memory ran out
-abbrev pub FailsWhole : Result Tree Refused → RecodeError → Type 0
-FailsWhole read (errors.Deserialize e) = read ≡ Err (faulty (fault_of e))
-FailsWhole read (errors.Trailing kind span) = (e : Event) × (read ≡ Err (trailing e)) × (span_view span ≡ span_of e) × (kind.now ≡ event_name e)
-FailsWhole read (errors.Serialize e) = ⊥
-FailsWhole read errors.Alloc = Unit {0}
+-- What a reader that may read so many events ahead gets of what comes: at none it gets no event.
+abbrev pub told : ℕ → Coming → Input
+told zero c = feed [] ends no_span
+told (suc n) c = feed c.events c.ending no_span
 
--- the value is what is read, and a refusal is the reader's
-abbrev pub GivesWhole : Result Tree Refused → Result Value RecodeError → Type 0
-GivesWhole read (Ok v) = read ≡ Ok (tree_of v)
-GivesWhole read (Err e) = FailsWhole read e
+-- All events are read as this value of the shape, and the end stands behind them.
+pub record IsAlone (g : Setting) (root depth : ℕ) (input : Input) (value : Tree) : Type 0 where
+  pub reads : Reads g depth root from_events input.events value
+  pub ending : input.ending ≡ ends
+  pub of_root : IsTrue (typed g.registry root value)
+
+-- an event of this name and at this place stands behind the value
+pub record IsBehind (g : Setting) (root depth : ℕ) (events : List Event) (kind : List ℕ) (span : Span) : Type 0 where
+  pub trailing : IsTrailing g root depth events span
+  pub called : kind ≡ event_name trailing.event
+
+-- why no value stands alone, or memory ran out
+abbrev pub IsNotAlone : Setting → ℕ → ℕ → Input → RecodeError → Type 0
+IsNotAlone g root depth input (errors.Deserialize e) = HasCauseFrom g root depth input.last input.events input.ending (fault_of e)
+    ⊎ IsFaultBehind g root depth input.events input.ending (fault_of e)
+IsNotAlone g root depth input (errors.Trailing kind span) = IsBehind g root depth input.events kind.now (span_view span)
+IsNotAlone g root depth input (errors.Serialize e) = ⊥
+IsNotAlone g root depth input errors.Alloc = Unit {0}
+
+-- the answer is this value, unless memory ran out
+abbrev pub IsTreeUnlessMemory : Tree → Result Value RecodeError → Type 0
+IsTreeUnlessMemory value (Ok v) = tree_of v ≡ value
+IsTreeUnlessMemory value (Err errors.Alloc) = Unit {0}
+IsTreeUnlessMemory value (Err _) = ⊥
+
+-- where a value stands alone, it is the answer
+abbrev pub FindsAlone : Setting → ℕ → ℕ → Input → Result Value RecodeError → Type 0
+FindsAlone g root depth input result = (value : Tree) → Reads g depth root from_events input.events value → input.ending ≡ ends → IsTreeUnlessMemory value result
+
+-- the reader's refusal: want of memory, or why the value can't be read
+abbrev pub RefusesAs : DeserializeError → RecodeError → Type 0
+RefusesAs e error = error ≡ cond (is_memory e.kind) errors.Alloc (errors.Deserialize e)
+
+-- the refusal of an event behind the value
+abbrev pub TrailsAs : Event → RecodeError → Type 0
+TrailsAs e (errors.Trailing kind span) = (kind.now ≡ event_name e) × (span_view span ≡ span_of e)
+TrailsAs e _ = ⊥
 
 -- the answer is this tape, unless memory ran out
 abbrev pub IsTapeUnlessMemory : List ℕ → Result (List ℕ) RecodeError → Type 0
@@ -50,7 +85,7 @@ IsTapeUnlessMemory tape (Err errors.Alloc) = Unit {0}
 IsTapeUnlessMemory tape (Err _) = ⊥
 
 -- an event of this name and at this place stands behind the value
-pub record HasTrailing (g : Registry) (root depth : ℕ) (input kind : List ℕ) (span : Rattle.semantics.specs.Events.Span) : Type 0 where
+pub record HasTrailing (g : Registry) (root depth : ℕ) (input kind : List ℕ) (span : Span) : Type 0 where
   pub events : List Event
   pub ending : Ending
   pub comes : Comes input events ending
@@ -68,6 +103,12 @@ abbrev pub IsUnsupported : {E : Type 0} → SerializeError E → Type 0 → Type
 IsUnsupported (Unsupported message) P = P
 IsUnsupported _ P = ⊥
 
+-- why a value has no tape: it has no written form, or memory ran out
+abbrev pub Unwrites : {E : Type 0} → Written Document → SerializeError E → Type 0
+Unwrites form (Unsupported message) = (why : Unwritten) × (form ≡ Err why)
+Unwrites form Alloc = Unit {0}
+Unwrites form _ = ⊥
+
 -- this is the tape of what is written
 abbrev pub IsWritten : Written Document → List ℕ → Type 0
 IsWritten form out = (d : Document) × (form ≡ Ok d) × (out ≡ document_tape d)
@@ -78,9 +119,14 @@ IsUnwritten form (errors.Serialize e) = IsUnsupported e ((why : Unwritten) × (f
 IsUnwritten form errors.Alloc = Unit {0}
 IsUnwritten form _ = ⊥
 
+-- Where no event may be read ahead none comes, and this is the fault of an empty input.
+pub record IsUnread (g : Registry) (root capacity depth : ℕ) (f : Fault) : Type 0 where
+  pub none_ahead : capacity ≡ 0
+  pub cause : HasCause (tape_setting g) root depth [] ends f
+
 -- the cause of each refusal
-abbrev pub IsRefusedFor : Registry → ℕ → ℕ → List ℕ → RecodeError → Type 0
-IsRefusedFor g root depth input (errors.Deserialize e) = IsReadFault g root depth input (fault_of e)
-IsRefusedFor g root depth input (errors.Trailing kind span) = HasTrailing g root depth input kind.now (span_view span)
-IsRefusedFor g root depth input (errors.Serialize e) = IsUnsupported e (HasUnwritten g root depth input)
-IsRefusedFor g root depth input errors.Alloc = Unit {0}
+abbrev pub IsRefusedFor : Registry → ℕ → ℕ → ℕ → List ℕ → RecodeError → Type 0
+IsRefusedFor g root capacity depth input (errors.Deserialize e) = IsReadFault g root depth input (fault_of e) ⊎ IsUnread g root capacity depth (fault_of e)
+IsRefusedFor g root capacity depth input (errors.Trailing kind span) = HasTrailing g root depth input kind.now (span_view span)
+IsRefusedFor g root capacity depth input (errors.Serialize e) = IsUnsupported e (HasUnwritten g root depth input)
+IsRefusedFor g root capacity depth input errors.Alloc = Unit {0}

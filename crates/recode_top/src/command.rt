@@ -1,19 +1,87 @@
-ghost use Rattle.std.specs.Prelude.{◌≡◌, ◌≢◌, List, ℕ, [], ◌∷◌, codes, MatchOption};
+//! What the words of the command line ask for.
+ghost use Rattle.std.specs.Prelude.{◌≡◌, ◌≢◌, ◌<◌, ◌≤◌, ◌^◌, ◌∷◌, [], ℕ, codes, MatchOption};
+ghost use Rattle.std.specs.Fmt.{decimal};
+ghost use Rattle.recode_top.specs.Requests.{Asks, AsksNothing, request_of};
 
 use crate::outside::Words;
+use shape_text::number;
 
-/// The root that the words `recode ROOT` name. None where there are other words.
-pub fn recoded_root(words: &Words) -> Option<&str>
-    ensures { MatchOption result
-        ((root : List ℕ) → words.now ≢ codes "recode" ∷ root ∷ [])
-        (λ root. words.now ≡ codes "recode" ∷ root.now ∷ []) }
+/// How many events may be read ahead, where the words don't say.
+const CAPACITY: usize = 512;
+
+/// How deep values may nest, where the words don't say.
+const DEPTH: usize = 128;
+
+/// How deep values may nest at most.
+const DEPTH_LIMIT: u128 = 4_096;
+
+/// What the words ask for.
+#[derive(Clone, Copy, Debug, PartialEq)]
+pub struct Request<'w> {
+    /// The name of the root's shape.
+    pub root: &'w str,
+    /// How many events may be read ahead.
+    pub capacity: usize,
+    /// How deep values may nest.
+    pub depth: usize,
+}
+
+/// The request of the words `recode ROOT` or `recode ROOT CAPACITY DEPTH`. None where there are other words.
+pub fn asked(words: &Words) -> Option<Request<'_>>
+    ensures { MatchOption result (AsksNothing words.now) (λ asked. Asks words.now (request_of asked)) }
 {
     let command = words.get(0)?;
     let root = words.get(1)?;
-    if words.len() != 2 || command != "recode" {
+    if command != "recode" {
         return None;
     }
-    Some(root)
+    if words.len() == 2 {
+        return Some(Request {
+            root,
+            capacity: CAPACITY,
+            depth: DEPTH,
+        });
+    }
+    let capacity = words.get(2)?;
+    let depth = words.get(3)?;
+    if words.len() != 4 {
+        return None;
+    }
+    Some(Request {
+        root,
+        capacity: capacity_of(capacity)?,
+        depth: depth_of(depth)?,
+    })
+}
+
+/// The number of 64 bits that this is the decimal of.
+#[tactic(auto, using(crate::proofs::Commands::is_decimal, crate::proofs::Commands::no_decimal, crate::proofs::Commands::other_decimal))]
+fn capacity_of(word: &str) -> Option<usize>
+    ensures { MatchOption result ((n : ℕ) → n < 2 ^ 64 → word.now ≢ decimal n) (λ n. (word.now ≡ decimal n) × (n < 2 ^ 64)) }
+{
+    let Some(n) = number(word) else {
+        return None;
+    };
+    if n < 18_446_744_073_709_551_616 {
+        Some(n as usize)
+    } else {
+        None
+    }
+}
+
+/// The number that this is the decimal of, where values may nest so deep.
+#[tactic(auto, using(crate::proofs::Commands::is_decimal, crate::proofs::Commands::no_decimal, crate::proofs::Commands::other_decimal))]
+fn depth_of(word: &str) -> Option<usize>
+    ensures { MatchOption result ((n : ℕ) → n ≤ 4096 → word.now ≢ decimal n) (λ n. (word.now ≡ decimal n) × (n ≤ 4096)) }
+{
+    let Some(n) = number(word) else {
+        return None;
+    };
+    if n <= DEPTH_LIMIT {
+        Some(n as usize)
+    } else {
+        None
+    }
 }
 
 #[cfg(test)]
@@ -21,15 +89,56 @@ mod tests {
     use super::*;
     use std::test::*;
 
+    /// The request of these words.
+    fn asked_by<'w>(words: &'w mut Words, list: &[&str]) -> Result<Option<Request<'w>>, Fail> {
+        for word in list {
+            words.push(word)?;
+        }
+        Ok(asked(words))
+    }
+
     #[test]
-    fn two_words_name_a_root(rt: HostRuntime) -> Result<(), Fail> {
-        let mut words = Words::new(rt.alloc());
-        words.push("recode")?;
-        assert_eq!(rt; recoded_root(&words), None);
-        words.push("Point")?;
-        assert_eq!(rt; recoded_root(&words), Some("Point"));
-        words.push("512")?;
-        assert_eq!(rt; recoded_root(&words), None);
+    fn two_or_four_words_make_a_request(rt: HostRuntime) -> Result<(), Fail> {
+        for (list, capacity, depth) in [
+            (["recode", "Point"].as_slice(), 512, 128),
+            (&["recode", "Point", "0", "0"], 0, 0),
+            (&["recode", "Point", "1", "4096"], 1, 4096),
+            (
+                &["recode", "Point", "18446744073709551615", "10"],
+                18_446_744_073_709_551_615,
+                10,
+            ),
+        ] {
+            let mut words = Words::new(rt.alloc());
+            let want = Request {
+                root: "Point",
+                capacity,
+                depth,
+            };
+            assert_eq!(rt; asked_by(&mut words, list)?, Some(want));
+        }
+        Ok(())
+    }
+
+    #[test]
+    fn other_words_make_none(rt: HostRuntime) -> Result<(), Fail> {
+        for list in [
+            [].as_slice(),
+            &["recode"],
+            &["record", "Point"],
+            &["recode", "Point", "512"],
+            &["recode", "Point", "512", "128", "1"],
+            &["recode", "Point", "", "128"],
+            &["recode", "Point", "0512", "128"],
+            &["recode", "Point", "+512", "128"],
+            &["recode", "Point", "512", " 128"],
+            &["recode", "Point", "18446744073709551616", "128"],
+            &["recode", "Point", "512", "4097"],
+            &["recode", "Point", "512", "-1"],
+        ] {
+            let mut words = Words::new(rt.alloc());
+            assert_eq!(rt; asked_by(&mut words, list)?, None);
+        }
         Ok(())
     }
 }

@@ -4,15 +4,15 @@ use event_core::{DeserializeError, SerializeError, Span};
 use std::fmt;
 use tape_text::NoFault;
 
-/// Why a tape can't be recoded.
+/// Why a tape can't be recoded. `'e` is how long its texts are borrowed.
 #[derive(Debug, Drop)]
-pub enum RecodeError {
+pub enum RecodeError<'e> {
     /// The value can't be read, or a line behind it is no event's.
-    Deserialize(DeserializeError),
+    Deserialize(DeserializeError<'e>),
     /// An event stands behind the value.
     Trailing {
         /// What it is, in a word or two.
-        kind: &'static str,
+        kind: &'e str,
         /// Where it stands.
         span: Span,
     },
@@ -22,7 +22,11 @@ pub enum RecodeError {
     Alloc,
 }
 
-impl fmt::Display for RecodeError {
+impl fmt::Display for RecodeError<'_> {
+    ghost use Rattle.recode_top.specs.RecodeTexts.{recode_error_text};
+
+    ghost output = { recode_error_text };
+
     fn fmt<W: fmt::Write>(&self, f: &mut fmt::Formatter<W>) -> fmt::Result {
         match self {
             RecodeError::Deserialize(error) => match error.span() {
@@ -36,4 +40,4 @@ impl fmt::Display for RecodeError {
     }
 }
 
-impl std::error::Error for RecodeError {}
+impl std::error::Error for RecodeError<'_> {}

@@ -9,32 +9,16 @@ mod error;
 mod input;
 mod outside;
 mod program;
-mod reader;
+mod reading;
 mod recoding;
-mod shape_definitions;
-mod shape_fault;
-mod shape_field;
-mod shape_head;
-mod shape_line;
-mod shape_lines;
-mod shape_members;
-mod shape_names;
 mod shape_note;
-mod shape_place;
-mod shape_quoted;
-mod shape_reading;
-mod shape_text;
-mod shape_variant;
-mod shape_words;
 mod stop;
-mod writer;
+mod writing;
 
 pub use error::RecodeError;
 pub use outside::{
     Failed, MemorySink, MemorySource, Sink, Source, StreamSink, StreamSource, Words,
 };
 pub use program::{out_of_memory, run};
-pub use reader::{reading_fails, reading_means};
 pub use recoding::recode;
-pub use shape_fault::{ReadShapesError, ShapeTextFault, ShapeTextKind};
-pub use shape_text::read_shapes;
+pub use shape_text::{ReadShapesError, ShapeTextFault, ShapeTextKind, read_shapes};

@@ -1,13 +1,14 @@
 //! The program: words, an input, and an output.
-ghost use Rattle.std.specs.Prelude.{◌≡◌, ◌≢◌, ◌≤◌, ◌⊎◌, ◌↔◌, ℕ, List, codes, OnOk, IfErr};
+ghost use Rattle.std.specs.Prelude.{◌≡◌, ◌⊎◌, ◌↔◌, codes, OnOk, IfErr};
 ghost use Rattle.std.specs.Io.KnownBytes.{Appends};
 ghost use Rattle.semantics.specs.Documents.{Document};
 ghost use Rattle.semantics.specs.Tapes.{document_tape};
 ghost use Rattle.recode_top.specs.Outside.Counting.{Rose};
-ghost use Rattle.recode_top.specs.Running.{recode_words, world, IsDone, IsRunStop, Ends, IsAsked, CompletesAs, CompletesWith};
+ghost use Rattle.recode_top.specs.Requests.{AsksNothing};
+ghost use Rattle.recode_top.specs.Running.{world, IsDone, IsRunStop, Ends, IsAsked, CompletesAs, CompletesWith};
 
 use crate::answer::answer;
-use crate::command::recoded_root;
+use crate::command::asked;
 use crate::input::read_input;
 use crate::outside::{Failed, Sink, Source, Words, write_all};
 use crate::stop::Stop;
@@ -16,7 +17,10 @@ use std::alloc::Global;
 #[cfg(test)]
 mod tests;
 
-/// Runs the program with these words: `recode ROOT`.
+/// Runs the program with these words: `recode ROOT`, or `recode ROOT CAPACITY DEPTH`.
+///
+/// At most CAPACITY events are read ahead, which is 512 where the words don't say, and values nest at most DEPTH deep,
+/// which is 128 then. CAPACITY fits 64 bits and DEPTH is at most 4,096, both decimals without leading zeros.
 ///
 /// It reads the source to its end, writes the canonical tape to the sink, and says on `notes` why it stops, if it
 /// does. The answer is the status:
@@ -48,9 +52,9 @@ pub fn run<S: Source, K: Sink, N: Sink>(
         result }
 
     // Words of other forms, and no others, are answered by the usage.
-    ensures usage { (result ≡ 2) ↔ ((root : List ℕ) → words.now ≢ recode_words root) }
+    ensures usage { (result ≡ 2) ↔ AsksNothing words.now }
 
-    // What can be recoded is, unless a read or a write failed or memory ran out.
+    // What can be recoded is, where events may be read ahead, unless a read or a write failed or memory ran out.
     ensures complete { (document : Document)
         → IsAsked words.now (world (S.left source.old) (S.faults source.old) (K.written sink.old) (K.faults sink.old)) document
         → CompletesWith (document_tape document)
@@ -87,14 +91,14 @@ fn recode_input<'w, S: Source, K: Sink>(
         (world (S.left source.new) (S.faults source.new) (K.written sink.new) (K.faults sink.new))
         result }
 {
-    let Some(root) = recoded_root(words) else {
+    let Some(request) = asked(words) else {
         return Err(Stop::Usage);
     };
     let input = match read_input(alloc, source) {
         Ok(input) => input,
         Err(stop) => return Err(stop),
     };
-    let output = match answer(alloc, root, input.as_slice()) {
+    let output = match answer(alloc, request, input.as_slice()) {
         Ok(output) => output,
         Err(stop) => return Err(stop),
     };

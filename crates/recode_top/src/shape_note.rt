@@ -1,10 +1,10 @@
 ghost use Rattle.std.specs.Prelude.{◌≡◌, IfOk};
 ghost use Rattle.shape_core.specs.Faults.{fault_kind_of};
-ghost use Rattle.recode_top.specs.ShapeErrors.{text_kind};
+ghost use Rattle.shape_text.specs.ShapeErrors.{text_kind};
 ghost use Rattle.recode_top.specs.ShapeNotes.{kind_name, rule_name, shapes_note};
 
-use crate::shape_fault::{ShapeTextFault, ShapeTextKind};
 use shape_core::{Name, OutOfMemory, ShapeFaultKind};
+use shape_text::{ShapeTextFault, ShapeTextKind};
 use std::alloc::Global;
 
 /// What is said of a refused shape text: the line, a colon, a space and the kind of the fault.

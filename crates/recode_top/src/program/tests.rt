@@ -62,6 +62,20 @@ fn a_run_writes_the_canonical_tape(rt: HostRuntime) -> Result<(), Fail> {
 }
 
 #[test]
+fn a_run_may_be_told_a_capacity_and_a_depth(rt: HostRuntime) -> Result<(), Fail> {
+    for (capacity, depth) in [("1", "2"), ("18446744073709551615", "4096")] {
+        let done = ran(
+            rt.alloc(),
+            &over(&["recode", "Point", capacity, depth], POINT),
+        )?;
+        assert_eq!(rt; done.status, 0);
+        assert_eq!(rt; done.sink.as_slice(), OUTPUT.as_bytes());
+        assert!(rt; done.notes.as_slice().is_empty());
+    }
+    Ok(())
+}
+
+#[test]
 fn a_run_that_stops_says_why(rt: HostRuntime) -> Result<(), Fail> {
     for (case, status, note) in [
         (over(&[], POINT), 2, "usage: recode ROOT [CAPACITY DEPTH]\n"),
@@ -69,6 +83,31 @@ fn a_run_that_stops_says_why(rt: HostRuntime) -> Result<(), Fail> {
             over(&["recode"], POINT),
             2,
             "usage: recode ROOT [CAPACITY DEPTH]\n",
+        ),
+        (
+            over(&["recode", "Point", "512"], POINT),
+            2,
+            "usage: recode ROOT [CAPACITY DEPTH]\n",
+        ),
+        (
+            over(&["recode", "Point", "0512", "128"], POINT),
+            2,
+            "usage: recode ROOT [CAPACITY DEPTH]\n",
+        ),
+        (
+            over(&["recode", "Point", "512", "4097"], POINT),
+            2,
+            "usage: recode ROOT [CAPACITY DEPTH]\n",
+        ),
+        (
+            over(&["recode", "Point", "512", "1"], POINT),
+            1,
+            "error: nesting deeper than 1 at .y [2..7)\n",
+        ),
+        (
+            over(&["recode", "Point", "0", "128"], POINT),
+            1,
+            "error: unexpected end of input, expected value [0..0)\n",
         ),
         (
             over(&["recode", "Line"], POINT),
@@ -116,7 +155,8 @@ fn a_refused_tape_is_not_written(rt: HostRuntime) -> Result<(), Fail> {
     let refused = ran(rt.alloc(), &over(&["recode", "Point"], input))?;
     assert_eq!(rt; refused.status, 1);
     assert!(rt; refused.sink.as_slice().is_empty());
-    assert!(rt; refused.notes.as_slice().starts_with(b"error: "));
+    let note = b"error: missing field `y` in type `Point` at <root> [12..13)\n".as_slice();
+    assert_eq!(rt; refused.notes.as_slice(), note);
     Ok(())
 }
 
