@@ -4,6 +4,7 @@ use Rattle.semantics.specs.Trees.{Tree, some, ok, err, list, structure, Trees, n
 use Rattle.semantics.specs.Shapes.{Field, Definition, transparent_shape, Registry, definition_at}
 use Rattle.semantics.specs.Typed.{option_at, ok_at, err_at, item_at, struct_at}
 
+-- a depth of the part that is there, and 0 where none is
 abbrev pub of_part : {A : Type 0} → Option A → (A → ℕ) → ℕ
 of_part None f = 0
 of_part (Some x) f = f x
@@ -13,6 +14,7 @@ abbrev pub layer : (ℕ → ℕ) → Option Definition → ℕ
 layer inner (Some (transparent_shape s)) = suc (inner s)
 layer inner _ = 0
 
+-- how many transparent shapes stand before what its values are made of, counted up to so many
 abbrev pub layers_within : Registry → ℕ → ℕ → ℕ
 layers_within g zero s = 0
 layers_within g (suc n) s = layer (layers_within g n) (definition_at g s)

@@ -10,6 +10,7 @@ use Rattle.semantics.specs.Places.{Path, At, below, under, Choice}
 abbrev pub Declared : Type 0
 Declared = At (List ℕ)
 
+-- the key of an alias, where the field of this place has one
 abbrev pub alias_key : ℕ → Option (List ℕ) → List Declared
 alias_key k None = []
 alias_key k (Some a) = record { path = k ∷ []; item = a } ∷ []
@@ -27,6 +28,7 @@ pub record Layout : Type 0 where
 abbrev pub InnerKeys : Type 0
 InnerKeys = Option Definition → Choice → List Declared
 
+-- the keys of one field: its own, or those of the flattened shape below it
 abbrev pub field_keys : Registry → InnerKeys → Bool → Choice → ℕ → Field → List Declared
 field_keys g inner whole c k f = cond f.flattened (cond whole (own_keys k f) [] ++ map (under k) (inner (definition_at g f.shape) (below k c))) (own_keys k f)
 
@@ -40,6 +42,7 @@ abbrev pub flat_keys : Registry → ℕ → InnerKeys
 flat_keys g zero d c = []
 flat_keys g (suc n) d c = []
 
+-- all keys that an object of these fields may have, and where each leads
 abbrev pub keys : Registry → Layout → Choice → List Declared
 keys g l c = keys_by g (flat_keys g (length g)) l.whole c 0 l.fields
 
@@ -48,6 +51,7 @@ abbrev pub path_of : List Declared → List ℕ → Option Path
 path_of [] t = None
 path_of (x ∷ xs) t = cond (bytes_eq x.item t) (Some x.path) (path_of xs t)
 
+-- the first path that is there
 abbrev pub or_path : Option Path → Option Path → Option Path
 or_path (Some p) o = Some p
 or_path None o = o
@@ -56,10 +60,12 @@ or_path None o = o
 abbrev pub InnerStray : Type 0
 InnerStray = Option Definition → Choice → Option Path
 
+-- where unknown keys lead among these fields, the first of which has place k
 abbrev pub stray_by : Registry → InnerStray → Choice → ℕ → List Field → Option Path
 stray_by g inner c k [] = None
 stray_by g inner c k (f ∷ fs) = or_path (cond f.flattened (option_map (λ p. k ∷ p) (inner (definition_at g f.shape) (below k c))) None) (stray_by g inner c (suc k) fs)
 
+-- Within so many layers. No shape can be flattened yet.
 abbrev pub flat_stray : Registry → ℕ → InnerStray
 flat_stray g zero d c = None
 flat_stray g (suc n) d c = None
@@ -71,6 +77,7 @@ pub record Plan : Type 0 where
   -- whether an unknown key is refused
   pub deny : Bool
 
+-- what is asked of the keys of an object, under a choice of variants
 abbrev pub plan_of : Registry → Choice → Bool → Layout → Plan
 plan_of g c deny l = record { declared = keys g l c; stray = stray_by g (flat_stray g (length g)) c 0 l.fields; deny = deny }
 
@@ -80,14 +87,17 @@ leads plan k (named t m n) = or_path (path_of plan.declared t.bytes) plan.stray
 leads plan k (nameless m n) = None
 leads plan k (ordered n) = Some (k ∷ [])
 
+-- how many fields were named by their order, counting this key
 abbrev pub after_key : ℕ → Key → ℕ
 after_key k (named t m n) = k
 after_key k (nameless m n) = k
 after_key k (ordered n) = suc k
 
+-- an entry, where it leads
 abbrev pub Placed : Type 0
 Placed = At Entry
 
+-- the entry at the path, where there is one
 abbrev pub with_entry : Entry → Option Path → Option Placed
 with_entry e None = None
 with_entry e (Some p) = Some (record { path = p; item = e })
@@ -104,6 +114,7 @@ is_allowed plan k (named t m n) = is_some (leads plan k (named t m n)) || not pl
 is_allowed plan k (nameless m n) = true
 is_allowed plan k (ordered n) = false
 
+-- each key is allowed, the first after k fields that were named by their order
 abbrev pub are_allowed : Plan → ℕ → List Entry → Bool
 are_allowed plan k [] = true
 are_allowed plan k (e ∷ es) = is_allowed plan k e.key && are_allowed plan (after_key k e.key) es

@@ -5,14 +5,17 @@ use Rattle.std.specs.Prelude.{ℕ, List, [], ◌∷◌, Bool, true, false, ◌||
 abbrev pub Path : Type 0
 Path = List ℕ
 
+-- something at a path
 pub record At (A : Type 0) : Type 0 where
   pub path : Path
   pub item : A
 
+-- the thing by the rest of its path, where the path begins with the place k
 abbrev pub rest_of : {A : Type 0} → ℕ → Path → A → Option (At A)
 rest_of k [] a = None
 rest_of k (j ∷ p) a = cond (j == k) (Some (record { path = p; item = a })) None
 
+-- the same of a thing with its path
 abbrev pub rest_at : {A : Type 0} → ℕ → At A → Option (At A)
 rest_at k x = rest_of k x.path x.item
 
@@ -20,9 +23,11 @@ rest_at k x = rest_of k x.path x.item
 abbrev pub below : {A : Type 0} → ℕ → List (At A) → List (At A)
 below k xs = filter_map (rest_at k) xs
 
+-- the thing one place further down
 abbrev pub under : {A : Type 0} → ℕ → At A → At A
 under k x = record { path = k ∷ x.path; item = x.item }
 
+-- the path is at its end
 abbrev pub is_end : Path → Bool
 is_end [] = true
 is_end (k ∷ p) = false

@@ -34,6 +34,7 @@ pub record Parts (A : Type 0) : Type 0 where
   pub value_of : ℕ → A → Option Tree
   pub name_of : A → List ℕ
 
+-- the text of a key, and none where it has no name
 abbrev pub key_text : Key → List ℕ
 key_text (named t m n) = t.bytes
 key_text (nameless m n) = []
@@ -44,6 +45,7 @@ abbrev pub key_source : Option Metadata → Source
 key_source None = from_events
 key_source (Some m) = given m
 
+-- where the metadata of the value of a key comes from
 abbrev pub source_of : Key → Source
 source_of (named t m n) = key_source m
 source_of (nameless m n) = given m
@@ -53,6 +55,7 @@ source_of (ordered n) = from_events
 abbrev pub by_run : Reader → Parts Entry
 by_run rd = record { value_of = λ s e. rd s (source_of e.key) e.run; name_of = λ e. key_text e.key }
 
+-- the first value that is there
 abbrev pub or_value : Option Tree → Option Tree → Option Tree
 or_value (Some v) o = Some v
 or_value None o = o
@@ -80,9 +83,11 @@ FlatReader A = Option Definition → Choice → List (At A) → Option Tree
 abbrev pub in_parts : Bool → Field → Bool → Bool
 in_parts whole f here = f.flattened && not (whole && here)
 
+-- a field: what leads to it is its one entry, or the parts of a flattened shape
 abbrev pub read_field : {A : Type 0} → FlatReader A → Registry → Parts A → Bool → Choice → Field → List (At A) → Option Tree
 read_field flat g rd whole c f xs = cond (in_parts whole f (has_whole xs)) (flat (definition_at g f.shape) c xs) (read_own g rd f xs)
 
+-- a value and those after it, where all are there
 abbrev pub and_trees : Option Tree → Option Trees → Option Trees
 and_trees o os = option_and_then (λ v. option_map (tree v) os) o
 
@@ -161,6 +166,7 @@ is_nothing null = true
 is_nothing unit = true
 is_nothing _ = false
 
+-- the run is one scalar that stands for nothing
 abbrev pub holds_nothing : Run → Bool
 holds_nothing (one x n) = is_nothing x
 holds_nothing _ = false
@@ -174,6 +180,7 @@ abbrev pub read_sequence : (List Run → Option Tree) → Run → Option Tree
 read_sequence mean (group of_sequence k n i) = option_and_then mean (items i)
 read_sequence mean _ = None
 
+-- each run is read by itself, and all have to be read
 abbrev pub read_each : (Run → Option Tree) → List Run → Option Trees
 read_each rd [] = Some no_trees
 read_each rd (r ∷ rs) = and_trees (rd r) (read_each rd rs)
@@ -192,6 +199,7 @@ by_outcome (ordered n) x y = None
 abbrev pub read_outcome : Reader → ℕ → ℕ → Entry → Option Tree
 read_outcome rd s t e = option_and_then (λ o. o) (by_outcome e.key (option_map ok (rd s from_events e.run)) (option_map err (rd t from_events e.run)))
 
+-- a result: one entry, whose key tells how it went
 abbrev pub read_result : Reader → ℕ → ℕ → List Entry → Option Tree
 read_result rd s t es = option_and_then (read_outcome rd s t) (only es)
 
@@ -202,6 +210,7 @@ read_elements g rd [] (r ∷ rs) = None
 read_elements g rd (f ∷ fs) [] = and_trees (fill g f) (read_elements g rd fs [])
 read_elements g rd (f ∷ fs) (r ∷ rs) = and_trees (rd f.shape from_events r) (read_elements g rd fs rs)
 
+-- the runs of some entries
 abbrev pub entry_runs : List Entry → List Run
 entry_runs es = map (λ e. e.run) es
 
@@ -224,6 +233,7 @@ read_as g rd s source (struct_shape d) r = cond (is_tuple d.kind) (read_tuple g.
 read_as g rd s source (transparent_shape i) r = rd i source r
 read_as g rd s source _ r = None
 
+-- what a run is read as by a shape, which has to be there
 abbrev pub read_shape : Setting → Reader → ℕ → Source → Run → Option Definition → Option Tree
 read_shape g rd s source r None = None
 read_shape g rd s source r (Some d) = read_as g rd s source d r

@@ -27,6 +27,7 @@ pub record ShapeFault : Type 0 where
   pub shape : ℕ
   pub kind : ShapeFaultKind
 
+-- how many shapes a registry holds at most, and how many fields a struct or variants an enum
 abbrev pub shape_limit : ℕ
 shape_limit = 65535
 
@@ -56,6 +57,7 @@ has_pair p (x ∷ xs) = list_any (p x) xs || has_pair p xs
 abbrev pub is_missing : ℕ → ℕ → Bool
 is_missing count s = not (nat_lt s count)
 
+-- a definition refers to a number that is not there
 abbrev pub dangles : ℕ → Definition → Bool
 dangles count (scalar_shape type) = false
 dangles count (option_shape s) = is_missing count s
@@ -68,6 +70,7 @@ dangles count (struct_shape s) = list_any (λ f. is_missing count f.shape) s.fie
 dangles count (enum_shape form vs) = list_any (λ v. list_any (λ f. is_missing count f.shape) v.fields) vs
 dangles count (transparent_shape s) = is_missing count s
 
+-- a draft has no definition, or one that dangles
 abbrev pub is_undefined : ℕ → Option Definition → Bool
 is_undefined count None = true
 is_undefined count (Some d) = dangles count d
@@ -80,10 +83,12 @@ repeats_shape_name ds i d = list_any (λ e. bytes_eq e.name d.name) (take i ds)
 abbrev pub repeats_field : List Field → Bool
 repeats_field fs = has_pair (λ f e. bytes_eq f.name e.name) fs
 
+-- two variants of one enum have one name
 abbrev pub repeats_variant : Definition → Bool
 repeats_variant (enum_shape form vs) = has_pair (λ v w. bytes_eq v.name w.name) vs
 repeats_variant _ = false
 
+-- two fields or two variants of one definition have one name
 abbrev pub repeats_name : Definition → Bool
 repeats_name d = on_fields repeats_field d || repeats_variant d
 
@@ -93,6 +98,7 @@ abbrev pub misplaces : ℕ → List Field → Bool
 misplaces k [] = false
 misplaces k (f ∷ fs) = not (bytes_eq f.name (decimal k)) || misplaces (suc k) fs
 
+-- an item of a tuple is misplaced, in a struct or in a variant
 abbrev pub has_bad_item : Definition → Bool
 has_bad_item d = on_fields_of is_tuple (misplaces 0) d
 
@@ -103,9 +109,11 @@ step_shapes (option_shape s) = s ∷ []
 step_shapes (transparent_shape s) = s ∷ []
 step_shapes _ = []
 
+-- the steps from a draft, and none where its definition is missing
 abbrev pub draft_steps : Draft → List ℕ
 draft_steps d = option_map_or step_shapes d.definition []
 
+-- the steps from the shape of a number
 abbrev pub steps_from : List Draft → ℕ → List ℕ
 steps_from ds s = option_map_or draft_steps (slice_get ds s) []
 
@@ -123,6 +131,7 @@ abbrev pub has_some : {A : Type 0} → List A → Bool
 has_some [] = false
 has_some (x ∷ xs) = true
 
+-- something of a unit kind has fields
 abbrev pub has_bad_unit : Definition → Bool
 has_bad_unit d = on_fields_of is_unit has_some d
 
@@ -130,10 +139,12 @@ has_bad_unit d = on_fields_of is_unit has_some d
 abbrev pub is_long : {A : Type 0} → List A → Bool
 is_long xs = nat_lt shape_limit (length xs)
 
+-- an enum has too many variants
 abbrev pub has_many_variants : Definition → Bool
 has_many_variants (enum_shape form vs) = is_long vs
 has_many_variants _ = false
 
+-- a definition has too many fields or variants
 abbrev pub has_too_many : Definition → Bool
 has_too_many d = on_fields is_long d || has_many_variants d
 
@@ -143,12 +154,15 @@ abbrev pub never_skips : SkipRule → Bool
 never_skips skip_never = true
 never_skips _ = false
 
+-- a field has some attribute beside its name and its shape
 abbrev pub has_attribute : Field → Bool
 has_attribute f = is_some f.rename || (is_some f.alias || (is_some f.default || (not (never_skips f.skip) || (f.flattened || (is_some f.metadata || is_some f.proxy)))))
 
+-- a struct, or one of its fields, has an attribute
 abbrev pub is_unbuilt_struct : StructShape → Bool
 is_unbuilt_struct s = s.deny || (is_some s.default || (s.container || list_any has_attribute s.fields))
 
+-- a definition is of a form that is not built yet
 abbrev pub is_unbuilt : Definition → Bool
 is_unbuilt (set_shape s) = true
 is_unbuilt (map_shape s t) = true
@@ -156,6 +170,7 @@ is_unbuilt (struct_shape s) = is_unbuilt_struct s
 is_unbuilt (enum_shape form vs) = true
 is_unbuilt _ = false
 
+-- a draft uses a form that is not built yet
 abbrev pub is_not_built : Draft → Bool
 is_not_built d = is_some d.proxy || on_definition d.definition is_unbuilt
 
@@ -164,9 +179,11 @@ pub record Rule : Type 0 where
   pub kind : ShapeFaultKind
   pub broken : Bool
 
+-- a rule, and whether it is broken
 abbrev pub rule : ShapeFaultKind → Bool → Rule
 rule kind broken = record { kind = kind; broken = broken }
 
+-- the first rule of the list that is broken
 abbrev pub first_broken : List Rule → Option ShapeFaultKind
 first_broken [] = None
 first_broken (r ∷ rs) = if r.broken then Some r.kind else first_broken rs
@@ -187,9 +204,11 @@ rules_of ds i d =
 abbrev pub fault_of : List Draft → ℕ → Draft → Option ShapeFaultKind
 fault_of ds i d = if is_not_built d then Some not_built else first_broken (rules_of ds i d)
 
+-- the fault of the shape of a number
 abbrev pub fault_at : List Draft → ℕ → Option ShapeFaultKind
 fault_at ds i = option_and_then (fault_of ds i) (slice_get ds i)
 
+-- no shape of a lower number has a fault
 abbrev pub NoFaultBelow : List Draft → ℕ → Type 0
 NoFaultBelow ds n = (i : ℕ) → i < n → fault_at ds i ≡ None
 
@@ -207,22 +226,27 @@ abbrev pub name_is_utf8 : Option (List ℕ) → Bool
 name_is_utf8 None = true
 name_is_utf8 (Some name) = is_utf8 name
 
+-- the names of a field are UTF-8
 abbrev pub field_is_utf8 : Field → Bool
 field_is_utf8 f = is_utf8 f.name && (name_is_utf8 f.rename && name_is_utf8 f.alias)
 
+-- the names of a variant and of its fields are UTF-8
 abbrev pub variant_is_utf8 : Variant → Bool
 variant_is_utf8 v = is_utf8 v.name && (name_is_utf8 v.rename && list_all field_is_utf8 v.fields)
 
+-- the tags of an enum are UTF-8
 abbrev pub form_is_utf8 : EnumForm → Bool
 form_is_utf8 (internal tag by) = is_utf8 tag
 form_is_utf8 (adjacent tag content by) = is_utf8 tag && is_utf8 content
 form_is_utf8 _ = true
 
+-- all names of a definition are UTF-8
 abbrev pub definition_is_utf8 : Definition → Bool
 definition_is_utf8 (struct_shape s) = list_all field_is_utf8 s.fields
 definition_is_utf8 (enum_shape form vs) = form_is_utf8 form && list_all variant_is_utf8 vs
 definition_is_utf8 _ = true
 
+-- all names of a shape are UTF-8
 abbrev pub shape_is_utf8 : Shape → Bool
 shape_is_utf8 s = is_utf8 s.name && definition_is_utf8 s.definition
 

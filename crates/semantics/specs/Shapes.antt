@@ -12,6 +12,7 @@ pub data Width : Type 0 where
   -- as wide as an address: 64 bits
   address : Width
 
+-- the seventeen types of scalars
 pub data ScalarType : Type 0 where
   unit_type : ScalarType
   bool_type : ScalarType
@@ -22,6 +23,7 @@ pub data ScalarType : Type 0 where
   string_type : ScalarType
   str_type : ScalarType
 
+-- without fields, a tuple, a struct with places for names, or one with named fields
 pub data StructKind : Type 0 where
   unit_kind : StructKind
   tuple_kind : StructKind
@@ -58,6 +60,7 @@ pub data MetaKind : Type 0 where
   doc_meta : MetaKind
   tag_meta : MetaKind
 
+-- how a variant is told from others: by its tag, as the one for unknown tags, or without a tag
 pub data VariantMode : Type 0 where
   tagged_mode : VariantMode
   other_mode : VariantMode
@@ -69,6 +72,7 @@ pub data TagKind : Type 0 where
   by_unsigned : TagKind
   by_signed : TagKind
 
+-- a field: its name, what stands in place of it, its shape by number, and its attributes
 pub record Field : Type 0 where
   pub name : List ℕ
   pub rename : Option (List ℕ)
@@ -84,6 +88,7 @@ pub record Field : Type 0 where
 abbrev pub effective_name : Field → List ℕ
 effective_name f = unwrap_or f.rename f.name
 
+-- a struct: its kind, its fields in order, and its attributes
 pub record StructShape : Type 0 where
   pub kind : StructKind
   pub fields : List Field
@@ -92,6 +97,7 @@ pub record StructShape : Type 0 where
   pub default : Option Tree
   pub container : Bool
 
+-- a variant of an enum: its name, what it holds, and its attributes
 pub record Variant : Type 0 where
   pub name : List ℕ
   pub rename : Option (List ℕ)
@@ -100,6 +106,7 @@ pub record Variant : Type 0 where
   pub discriminant : Option ℤ
   pub mode : VariantMode
 
+-- how the variants of an enum are told apart in a format
 pub data EnumForm : Type 0 where
   external : EnumForm
   internal : List ℕ → TagKind → EnumForm
@@ -109,6 +116,7 @@ pub data EnumForm : Type 0 where
   untagged : EnumForm
   cow : EnumForm
 
+-- what a shape is; the shapes that it refers to stand by their numbers
 pub data Definition : Type 0 where
   scalar_shape : ScalarType → Definition
   option_shape : ℕ → Definition
@@ -122,6 +130,7 @@ pub data Definition : Type 0 where
   enum_shape : EnumForm → List Variant → Definition
   transparent_shape : ℕ → Definition
 
+-- a shape: its name, what it is, and the shape in whose form it is written, where there is one
 pub record Shape : Type 0 where
   pub name : List ℕ
   pub definition : Definition
@@ -137,6 +146,7 @@ pub record Draft : Type 0 where
 abbrev pub Registry : Type 0
 Registry = List Shape
 
+-- what a shape is, as an option
 abbrev pub definition_of : Shape → Option Definition
 definition_of s = Some s.definition
 

@@ -15,6 +15,7 @@ abbrev pub through : (ℕ → Option Definition) → Definition → Option Defin
 through inner (transparent_shape s) = inner s
 through inner d = Some d
 
+-- what the values of the shape are made of, where at most so many transparent shapes stand before it
 abbrev pub base_within : Registry → ℕ → ℕ → Option Definition
 base_within g zero s = None
 base_within g (suc n) s = option_and_then (through (base_within g n)) (definition_at g s)
@@ -28,6 +29,7 @@ abbrev pub scalar_of : Definition → Option ScalarType
 scalar_of (scalar_shape t) = Some t
 scalar_of _ = None
 
+-- what an option holds
 abbrev pub option_of : Definition → Option ℕ
 option_of (option_shape s) = Some s
 option_of _ = None
@@ -37,6 +39,7 @@ abbrev pub ok_of : Definition → Option ℕ
 ok_of (result_shape s t) = Some s
 ok_of _ = None
 
+-- what a result holds where it went wrong
 abbrev pub err_of : Definition → Option ℕ
 err_of (result_shape s t) = Some t
 err_of _ = None
@@ -52,6 +55,7 @@ abbrev pub length_of : Definition → Option ℕ
 length_of (array_shape s n) = Some n
 length_of _ = None
 
+-- the struct
 abbrev pub struct_of : Definition → Option StructShape
 struct_of (struct_shape s) = Some s
 struct_of _ = None
@@ -66,27 +70,35 @@ abbrev pub tuple_of : Definition → Option StructShape
 tuple_of (struct_shape s) = cond (is_tuple s.kind) (Some s) None
 tuple_of _ = None
 
+-- the scalar that the shape of this number is, looked for through transparent shapes, as in all that follow
 abbrev pub scalar_at : Registry → ℕ → Option ScalarType
 scalar_at g s = option_and_then scalar_of (base g s)
 
+-- what an option of this number holds
 abbrev pub option_at : Registry → ℕ → Option ℕ
 option_at g s = option_and_then option_of (base g s)
 
+-- what a result of this number holds where it went well
 abbrev pub ok_at : Registry → ℕ → Option ℕ
 ok_at g s = option_and_then ok_of (base g s)
 
+-- what a result of this number holds where it went wrong
 abbrev pub err_at : Registry → ℕ → Option ℕ
 err_at g s = option_and_then err_of (base g s)
 
+-- the items of a list or an array of this number
 abbrev pub item_at : Registry → ℕ → Option ℕ
 item_at g s = option_and_then item_of (base g s)
 
+-- how many items the shape of this number has, where that is said
 abbrev pub length_at : Registry → ℕ → Option ℕ
 length_at g s = option_and_then length_of (base g s)
 
+-- the struct of this number
 abbrev pub struct_at : Registry → ℕ → Option StructShape
 struct_at g s = option_and_then struct_of (base g s)
 
+-- the struct of this number that is written and read as an object
 abbrev pub object_at : Registry → ℕ → Option StructShape
 object_at g s = option_and_then object_of (base g s)
 
@@ -95,22 +107,27 @@ abbrev pub takes_unit : ScalarType → Bool
 takes_unit unit_type = true
 takes_unit _ = false
 
+-- truth values
 abbrev pub takes_bool : ScalarType → Bool
 takes_bool bool_type = true
 takes_bool _ = false
 
+-- characters
 abbrev pub takes_char : ScalarType → Bool
 takes_char char_type = true
 takes_char _ = false
 
+-- whole numbers that fit an unsigned type
 abbrev pub takes_unsigned : ℕ → ScalarType → Bool
 takes_unsigned n (unsigned_type w) = fits_unsigned w n
 takes_unsigned n _ = false
 
+-- whole numbers that fit a signed type
 abbrev pub takes_signed : ℤ → ScalarType → Bool
 takes_signed z (signed_type w) = fits_signed w z
 takes_signed z _ = false
 
+-- texts
 abbrev pub takes_text : ScalarType → Bool
 takes_text string_type = true
 takes_text str_type = true

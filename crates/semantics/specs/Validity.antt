@@ -13,6 +13,7 @@ abbrev pub field_shapes : List Field → List ℕ
 field_shapes [] = []
 field_shapes (f ∷ fs) = f.shape ∷ field_shapes fs
 
+-- the shapes that a definition refers to, of each form that is built
 abbrev pub part_shapes : Definition → List ℕ
 part_shapes (option_shape s) = s ∷ []
 part_shapes (result_shape s t) = s ∷ t ∷ []
@@ -22,6 +23,7 @@ part_shapes (struct_shape s) = field_shapes s.fields
 part_shapes (transparent_shape s) = s ∷ []
 part_shapes _ = []
 
+-- the same of a shape that may be missing
 abbrev pub parts_at : Option Definition → List ℕ
 parts_at None = []
 parts_at (Some d) = part_shapes d
@@ -58,6 +60,7 @@ HasNoClash g (option_shape s) = on_some (base g s) is_null_form ≡ false
 HasNoClash g (scalar_shape str_type) = ⊥
 HasNoClash g _ = Unit {0}
 
+-- a shape that is there has no clash
 abbrev pub IsApart : Registry → Option Definition → Type 0
 IsApart g None = Unit {0}
 IsApart g (Some d) = HasNoClash g d
@@ -74,6 +77,7 @@ Clean g root v = Unit {0}
 abbrev pub AlikeText : Phrase → Tree → Type 0
 AlikeText t w = (u : Phrase) × (w ≡ text u) × (u.bytes ≡ t.bytes)
 
+-- the part is there, and has the property
 abbrev pub OnPart : {A : Type 0} → Option A → (A → Type 0) → Type 0
 OnPart None P = ⊥
 OnPart (Some x) P = P x

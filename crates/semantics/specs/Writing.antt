@@ -21,6 +21,7 @@ pub data Unwritten : Type 0 where
   tuple_payload : Unwritten
   repeated_tag : Unwritten
 
+-- what something is written as, or why it has no written form
 abbrev pub Written : Type 0 → Type 0
 Written A = Result A Unwritten
 
@@ -31,6 +32,7 @@ unfit (Some (map_shape s t)) = form_not_built
 unfit (Some (enum_shape form vs)) = form_not_built
 unfit _ = not_typed
 
+-- the same by the number of the shape
 abbrev pub unfit_at : Registry → ℕ → Unwritten
 unfit_at g s = unfit (base g s)
 
@@ -53,13 +55,16 @@ abbrev pub unsigned_literal : ScalarType → ℕ → Literal
 unsigned_literal (unsigned_type bits128) n = str_literal (decimal n)
 unsigned_literal _ n = u64_literal n
 
+-- the same of a signed number
 abbrev pub signed_literal : ScalarType → ℤ → Literal
 signed_literal (signed_type bits128) z = str_literal (signed_decimal z)
 signed_literal _ z = i64_literal z
 
+-- a sequence of items that are written
 abbrev pub written_sequence : Written Documents → Written Document
 written_sequence o = on_ok o (λ ds. Ok (sequence ds))
 
+-- an object of entries that are written
 abbrev pub written_object : Written Members → Written Document
 written_object o = on_ok o (λ ms. Ok (object ms))
 
