@@ -169,7 +169,6 @@ module _ (span : Span) where
     at_side None r fs = at_refused _ (path t fs) span
     at_side (Some b) r fs = at_await r.depth (side_of r.sides b).shape from_events (outcome_side r b ∷ fs)
 
-
 at_end : (t : Terms) (o : Option End) (s : StructPart) (p : Path) (q : Key) (fs : Frames) → At (key_note q).span (end_step o t s p q fs)
 at_end t None s p q fs = at_never _ (here (key_note q).span) (key_note q).span
 at_end t (Some o) s p q fs = by_taken (not o.many && is_taken p s.got.values)
@@ -185,6 +184,7 @@ at_struct_key t s fs q = by_allowed (is_allowed (plan_in t s) s.got.count q)
     by_lead : (o : Option Path) → At (key_note q).span (lead_step o t s q fs)
     by_lead None = at_ok _ _
     by_lead (Some p) = at_end t (leaf_at t.setting.registry [] s.layout p) (past_key s q) p q fs
+
     by_allowed : (b : Bool) → At (key_note q).span (cond b (lead_step (leads (plan_in t s) s.got.count q) t s q fs) (unexpected (path t fs) (here (key_note q).span)))
     by_allowed true = by_lead (leads (plan_in t s) s.got.count q)
     by_allowed false = at_refused _ (path t fs) (key_note q).span
@@ -195,9 +195,11 @@ at_node_key t p fs q = by_argument (is_argument q)
     by_first : (o : Option Span) → At (key_note q).span (argument_step o t p fs q)
     by_first (Some first) = at_refused _ (path t fs) (key_note q).span
     by_first None = at_ok _ _
+
     by_key : (b : Bool) → At (key_note q).span (cond b (Ok (going (passing [] ∷ node p ∷ fs))) (unexpected (path t fs) (here (key_note q).span)))
     by_key true = at_ok _ _
     by_key false = at_refused _ (path t fs) (key_note q).span
+
     by_argument : (b : Bool) → At (key_note q).span (cond b (argument_step p.node.first t p fs q) (cond (is_key q) (Ok (going (passing [] ∷ node p ∷ fs))) (unexpected (path t fs) (here (key_note q).span))))
     by_argument true = by_first p.node.first
     by_argument false = by_key (is_key q)
@@ -250,9 +252,11 @@ module _ (t : Terms) where
     where
       Again : Type 0
       Again = (i : ℕ) (source : Source) (fs : Frames) → At (cond (begin_leaves t e n i) before (span_of e)) (begin t n i source fs before e)
+
       by_nothing : (i : ℕ) (b : Bool) → Again → At (cond (unless b (begin_leaves t e n i)) before (span_of e)) (begin_option b (begin t n i from_events) fs before e)
       by_nothing i true again = at_deliver (span_of e) fs none
       by_nothing i false again = again i from_events (option ∷ fs)
+
       by_definition : (o : Option Definition) → Again → At (cond (leaves_as (begin_leaves t e n) o e) before (span_of e)) (begin_as t (begin t n) n s source o fs before e)
       by_definition None again = at_refused _ (path t fs) (span_of e)
       by_definition (Some (scalar_shape x)) again = at_scalar _ fs e

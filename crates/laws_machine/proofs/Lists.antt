@@ -39,22 +39,27 @@ module _ (t : Terms) (n : ℕ) (meets : Meets t n) (l : Items) (i : ℕ) where
     where
       behind : Result ((Bool × List Tree) × Input) Fault → Result (Tree × Input) Fault
       behind r = ((r >>= λ x. turned (turning (item_turn l (reading t n i from_events)) k) x.0.0 x.0.1 (path t fs) x.1) >>= items_whole l (path t fs)) >>= resume t fs
+
       Again : Type 0
       Again = (v : Tree) (rest : Input) → length rest.events < length (e ∷ es)
           → run t (items (items_of (front ++ (v ∷ []))) ∷ fs) rest ≡ ((turning (item_turn l (reading t n i from_events)) k (front ++ (v ∷ [])) (path t fs) rest >>= items_whole l (path t fs)) >>= resume t fs)
+
       by_value : (r : Result (Tree × Input) Fault) → reading t n i from_events (path t fs ++ (index_step (length front) ∷ [])) (feed (e ∷ es) ending last) ≡ r → Again
           → (r >>= resume t (items (items_of front) ∷ fs)) ≡ behind (r >>= sequences.with_item front)
       by_value (Ok x) is again = again x.0 x.1 (reading_falls t n i from_events _ _ x is)
       by_value (Err f) is again = refl
+
       by_length : (o : Option ℕ) → (sequences.length_fault o l.shape (length front + 1) (path t fs) (here last) >>= on t (feed es ending (span_of e)))
           ≡ behind (sequences.length_fault o l.shape (length front + 1) (path t fs) (feed (e ∷ es) ending last))
       by_length None = refl
       by_length (Some m) = refl
+
       by_room : (b : Bool) → Again → (more_step b t (items_of front) fs last e >>= on t (feed es ending (span_of e))) ≡ behind (more_items b l (reading t n i from_events) front (path t fs) (feed (e ∷ es) ending last))
       by_room true again =
           first t n i from_events (items (items_of front) ∷ fs) e es ending last ∙ meets i from_events (items (items_of front) ∷ fs) (feed (e ∷ es) ending last)
           ∙ by_value (reading t n i from_events (path t fs ++ (index_step (length front) ∷ [])) (feed (e ∷ es) ending last)) refl again
       by_room false again = by_length l.len
+
       by_end : (b : Bool) → Again → (item_step b t (items_of front) fs last e >>= on t (feed es ending (span_of e))) ≡ behind (item_of b l (reading t n i from_events) front (path t fs) (feed (e ∷ es) ending last))
       by_end true again = end_meets (has_length l.len (length front)) front fs (feed es ending (span_of e))
       by_end false again = by_room (has_room l.len (length front)) again

@@ -71,9 +71,11 @@ module _ (t : Terms) (target : Target) where
     where
       rest : Input
       rest = feed es ending (key_note q).span
+
       by_key : (b : Bool) → (cond b (Ok (going (passing [] ∷ frame s ∷ fs))) (unexpected (path t fs) rest) >>= on t rest) ≡ (cond b (skip_at (path t fs) rest >>= unchanged s) (unexpected (path t fs) rest) >>= λ x. then x.0 x.1)
       by_key true = skip_meets t (frame s ∷ fs) rest ∙ by_skip s fs q es ending then again (skip_at (path t fs) rest) refl
       by_key false = refl
+
       by_argument : (b : Bool) → (cond b (argument_step s.first t (part s) fs q) (cond (is_key q) (Ok (going (passing [] ∷ frame s ∷ fs))) (unexpected (path t fs) rest)) >>= on t rest)
           ≡ (cond b (argument_at s.first target q (path t fs) rest) (cond (is_key q) (skip_at (path t fs) rest >>= unchanged s) (unexpected (path t fs) rest)) >>= λ x. then x.0 x.1)
       by_argument true = by_first s fs q es ending then again s.first

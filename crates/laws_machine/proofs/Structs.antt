@@ -49,8 +49,8 @@ module _ (t : Terms) (n : ℕ) (meets : Meets t n) (s : ℕ) (d : StructShape) w
 
     by_taken : (p : Path) (o : End) (b : Bool)
         → (cond b (refused (duplicate_field (key_text q) (taken_span p got.values)) (path t fs) here_on) (await t n o.shape (source_of q) (field (past_key (part got) q) (entered p q) ∷ fs) (key_note q).span) >>= on t here_on)
-          ≡ (cond b (refused (duplicate_field (key_text q) (taken_span p got.values)) (path t fs) here_on)
-              (reading t n o.shape (source_of q) (path t fs ++ steps_at registry (plain_layout d) p) here_on >>= got_value (after_key got.count q) got.values p q) >>= λ x. then x.0 x.1)
+        ≡ (cond b (refused (duplicate_field (key_text q) (taken_span p got.values)) (path t fs) here_on)
+        (reading t n o.shape (source_of q) (path t fs ++ steps_at registry (plain_layout d) p) here_on >>= got_value (after_key got.count q) got.values p q) >>= λ x. then x.0 x.1)
     by_taken p o true = refl
     by_taken p o false =
         meets o.shape (source_of q) (field (past_key (part got) q) (entered p q) ∷ fs) here_on
@@ -73,7 +73,7 @@ module _ (t : Terms) (n : ℕ) (meets : Meets t n) (s : ℕ) (d : StructShape) w
 
     by_allowed : (b : Bool) → (cond b (lead_step (leads plan got.count q) t (part got) q fs) (unexpected (path t fs) here_on) >>= on t here_on)
         ≡ (cond b (at_path (leaf_at registry [] (plain_layout d)) (steps_at registry (plain_layout d)) (leads plan got.count q) (reading t n) q (after_key got.count q) got.values (path t fs) here_on) (unexpected (path t fs) here_on)
-            >>= λ x. then x.0 x.1)
+        >>= λ x. then x.0 x.1)
     by_allowed true = by_lead (leads plan got.count q)
     by_allowed false = refl
 

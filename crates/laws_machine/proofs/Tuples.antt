@@ -49,18 +49,22 @@ module _ (t : Terms) (n : ℕ) (meets : Meets t n) (s : ℕ) (d : StructShape) w
     where
       behind : Result ((Bool × List Tree) × Input) Fault → Result (Tree × Input) Fault
       behind r = ((r >>= λ x. turned (turning (element_turn tuple (reading t n)) k) x.0.0 x.0.1 (path t fs) x.1) >>= tuple_end registry tuple (path t fs)) >>= resume t fs
+
       Again : Type 0
       Again = (v : Tree) (rest : Input) → length rest.events < length (e ∷ es)
           → run t (elements (part (front ++ (v ∷ []))) ∷ fs) rest ≡ ((turning (element_turn tuple (reading t n)) k (front ++ (v ∷ [])) (path t fs) rest >>= tuple_end registry tuple (path t fs)) >>= resume t fs)
+
       by_value : (i : ℕ) (r : Result (Tree × Input) Fault) → reading t n i from_events (path t fs ++ (index_step (length front) ∷ [])) (feed (e ∷ es) ending last) ≡ r → Again
           → (r >>= resume t (elements (part front) ∷ fs)) ≡ behind (r >>= with_item front)
       by_value i (Ok x) is again = again x.0 x.1 (reading_falls t n i from_events _ _ x is)
       by_value i (Err f) is again = refl
+
       by_field : (o : Option Field) → Again → (element_in o t (part front) fs last e >>= on t (feed es ending (span_of e))) ≡ behind (element_at o tuple (reading t n) front (path t fs) (feed (e ∷ es) ending last))
       by_field None again = refl
       by_field (Some f) again =
           first t n f.shape from_events (elements (part front) ∷ fs) e es ending last ∙ meets f.shape from_events (elements (part front) ∷ fs) (feed (e ∷ es) ending last)
           ∙ by_value f.shape (reading t n f.shape from_events (path t fs ++ (index_step (length front) ∷ [])) (feed (e ∷ es) ending last)) refl again
+
       by_end : (b : Bool) → Again → (element_step b t (part front) fs last e >>= on t (feed es ending (span_of e))) ≡ behind (element_of b tuple (reading t n) front (path t fs) (feed (e ∷ es) ending last))
       by_end true again = end_meets front fs (feed es ending (span_of e))
       by_end false again = by_field (slice_get d.fields (length front)) again
@@ -74,18 +78,22 @@ module _ (t : Terms) (n : ℕ) (meets : Meets t n) (s : ℕ) (d : StructShape) w
     where
       behind : Result ((Bool × List Tree) × Input) Fault → Result (Tree × Input) Fault
       behind r = ((r >>= λ x. turned (turning (keyed_turn tuple (reading t n)) k) x.0.0 x.0.1 (path t fs) x.1) >>= tuple_end registry tuple (path t fs)) >>= resume t fs
+
       Again : Type 0
       Again = (v : Tree) (rest : Input) → length rest.events < length es
           → run t (keyed (part (front ++ (v ∷ []))) ∷ fs) rest ≡ ((turning (keyed_turn tuple (reading t n)) k (front ++ (v ∷ [])) (path t fs) rest >>= tuple_end registry tuple (path t fs)) >>= resume t fs)
+
       by_value : (span : Span) (i : ℕ) (r : Result (Tree × Input) Fault) → reading t n i from_events (path t fs ++ (index_step (length front) ∷ [])) (feed es ending span) ≡ r → Again
           → (r >>= resume t (keyed_item (part front) ∷ fs)) ≡ behind (r >>= with_item front)
       by_value span i (Ok x) is again = again x.0 x.1 (reading_falls t n i from_events _ _ x is)
       by_value span i (Err f) is again = refl
+
       by_field : (span : Span) (o : Option Field) → Again → (keyed_in o t (part front) fs span >>= on t (feed es ending span)) ≡ behind (element_at o tuple (reading t n) front (path t fs) (feed es ending span))
       by_field span None again = refl
       by_field span (Some f) again =
           meets f.shape from_events (keyed_item (part front) ∷ fs) (feed es ending span)
           ∙ by_value span f.shape (reading t n f.shape from_events (path t fs ++ (index_step (length front) ∷ [])) (feed es ending span)) refl again
+
       by_event : (e : Event) → Again → (keyed_step e t (part front) fs >>= on t (feed es ending (span_of e))) ≡ behind (keyed_of e tuple (reading t n) front (path t fs) (feed es ending (span_of e)))
       by_event (leaf (key q)) again = by_field (key_note q).span (slice_get d.fields (length front)) again
       by_event (stop of_struct m) again = end_meets front fs (feed es ending m.span)

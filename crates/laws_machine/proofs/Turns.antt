@@ -40,8 +40,10 @@ module _ (t : Terms) where
     where
       told : Option Definition → Result (Tree × Input) Fault
       told o = begin_as t (begin t n) n s source o fs last e >>= on t (feed es ending (span_of e))
+
       told_alike : Option Definition → Result (Tree × Input) Fault
       told_alike o = begin_as t (begin t n) n s from_events o fs last e >>= on t (feed es ending (span_of e))
+
       by_definition : (o : Option Definition) → definition_at t.setting.registry s ≡ o
           → ((i : ℕ) → (begin t n i source fs last e >>= on t (feed es ending (span_of e))) ≡ awaited n i source fs (feed (e ∷ es) ending last))
           → told o ≡ (await_as (await t n) n s source o fs last >>= on t (feed (e ∷ es) ending last))
@@ -72,13 +74,15 @@ module _ (t : Terms) where
     where
       Again : Opened → Type 0
       Again os = run t (passing os ∷ fs) (feed es ending (span_of e)) ≡ (turning skip_turn k os (path t fs) (feed es ending (span_of e)) >>= λ x. run t fs x.1)
+
       by_more : (b : Bool) (os : Opened) → Again os
           → (pass_on b os fs >>= on t (feed es ending (span_of e))) ≡ (turned (turning skip_turn k) b os (path t fs) (feed es ending (span_of e)) >>= λ x. run t fs x.1)
       by_more true os again = again
       by_more false os again = refl
+
       by_turn : (r : Result ((Bool × Opened) × Input) Fault) → ((os : Opened) → Again os)
           → ((r >>= pass_behind fs) >>= on t (feed es ending (span_of e)))
-            ≡ (((r >>= onto (feed es ending (span_of e))) >>= λ x. turned (turning skip_turn k) x.0.0 x.0.1 (path t fs) x.1) >>= λ x. run t fs x.1)
+          ≡ (((r >>= onto (feed es ending (span_of e))) >>= λ x. turned (turning skip_turn k) x.0.0 x.0.1 (path t fs) x.1) >>= λ x. run t fs x.1)
       by_turn (Ok x) again = by_more x.0.0 x.0.1 (again x.0.1)
       by_turn (Err f) again = refl
 
@@ -91,8 +95,8 @@ module _ (t : Terms) where
       (stepping : (s : S) (fs : Frames) (last : Span) (e : Event) → step_at t (frame s ∷ fs) last e ≡ entry_step e (enters s fs) (whole s fs) t fs)
       (finishing : (s : S) (fs : Frames) (input : Input) → finish s (path t fs) input ≡ whole s fs input.last)
       (entering : (s : S) (fs : Frames) (q : Key) (es : List Event) (ending : Ending) (then : S → Input → Result (Tree × Input) Fault)
-          → ((s' : S) (rest : Input) → length rest.events ≤ length es → run t (frame s' ∷ fs) rest ≡ then s' rest)
-          → (enters s fs q >>= on t (feed es ending (key_note q).span)) ≡ (takes q s (path t fs) (feed es ending (key_note q).span) >>= λ x. then x.0 x.1)) where
+      → ((s' : S) (rest : Input) → length rest.events ≤ length es → run t (frame s' ∷ fs) rest ≡ then s' rest)
+      → (enters s fs q >>= on t (feed es ending (key_note q).span)) ≡ (takes q s (path t fs) (feed es ending (key_note q).span) >>= λ x. then x.0 x.1)) where
     pub entries_meet : (k : ℕ) (s : S) (fs : Frames) (es : List Event) (ending : Ending) (last : Span) → length es < k
         → run t (frame s ∷ fs) (feed es ending last) ≡ ((turning (entry_at takes) k s (path t fs) (feed es ending last) >>= finished finish (path t fs)) >>= resume fs)
     entries_meet zero s fs es ending last lt = absurd (omega (arith, lt))
@@ -103,14 +107,17 @@ module _ (t : Terms) where
       where
         others : S → Input → Result (Tree × Input) Fault
         others s' rest = (turning (entry_at takes) k s' (path t fs) rest >>= finished finish (path t fs)) >>= resume fs
+
         behind : Result ((Bool × S) × Input) Fault → Result (Tree × Input) Fault
         behind r = ((r >>= λ x. turned (turning (entry_at takes) k) x.0.0 x.0.1 (path t fs) x.1) >>= finished finish (path t fs)) >>= resume fs
+
         by_taken : (r : Result (S × Input) Fault) → (r >>= λ x. others x.0 x.1) ≡ behind (r >>= goes_with)
         by_taken (Ok x) = refl
         by_taken (Err f) = refl
+
         by_event : (e : Event) → ((s' : S) (rest : Input) → length rest.events ≤ length es → run t (frame s' ∷ fs) rest ≡ others s' rest)
             → (entry_step e (enters s fs) (whole s fs) t fs >>= on t (feed es ending (span_of e)))
-              ≡ ((turning (entry_at takes) (suc k) s (path t fs) (feed (e ∷ es) ending last) >>= finished finish (path t fs)) >>= resume fs)
+            ≡ ((turning (entry_at takes) (suc k) s (path t fs) (feed (e ∷ es) ending last) >>= finished finish (path t fs)) >>= resume fs)
         by_event (leaf (key q)) again = entering s fs q es ending others again ∙ by_taken (takes q s (path t fs) (feed es ending (key_note q).span))
         by_event (stop of_struct n) again =
             tree_meets (whole s fs n.span) fs (feed es ending n.span)
