@@ -22,4 +22,3 @@ pub mod Setting
 pub mod NodeReads
 pub mod Lasts
 pub mod Deserialize
-pub mod UntoldCalls

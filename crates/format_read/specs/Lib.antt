@@ -15,4 +15,3 @@ pub mod Fits
 pub mod Filling
 pub mod Passing
 pub mod Nodes
-pub mod Untold

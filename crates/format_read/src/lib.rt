@@ -18,8 +18,6 @@ mod side;
 mod source;
 mod stop;
 mod task;
-#[cfg(test)]
-mod tests;
 mod trail;
 mod uncounted;
 mod value;

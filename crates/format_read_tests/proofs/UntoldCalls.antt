@@ -8,7 +8,7 @@ use Rattle.event_core.specs.declared.event.ParseEvent.{ParseEvent}
 use Rattle.event_core.specs.declared.error.ParseError.{ParseError}
 use Rattle.format_traits.specs.Parsing.{Gave, Failed, FailedAfter, EndAfter, Met, IsMemory, Stays}
 use Rattle.format_traits.specs.Batches.{Put, PutBefore}
-use Rattle.format_read.specs.Untold.{stuck_at, untold}
+use Rattle.format_read_tests.specs.Untold.{stuck_at, untold}
 
 empty_of : (xs : List ParseEvent) → length xs ≡ 0 → xs ≡ []
 empty_of [] h = refl

@@ -1,7 +1,7 @@
 //! A parser of events that are told, and of what stands behind them.
 ghost use Rattle.std.specs.Prelude.{◌≡◌, ◌++◌, ◌≤◌, ◌⊎◌, None, Some, length, take, drop, option_map, IfErr, OnOk, OnErr};
 ghost use Rattle.event_core.specs.Faults.{parse_fault};
-ghost use Rattle.format_read.specs.Untold.{io_at};
+ghost use Rattle.format_read_tests.specs.Untold.{io_at};
 ghost use Rattle.format_traits.specs.Parsing.{IsMemory, HasCause};
 
 use event_core::{DeserializeErrorKind, ParseError, ParseEvent, Span};
@@ -53,6 +53,12 @@ impl<'de> Listed<'de> {
     /// How many events it gave.
     pub fn given(&self) -> usize {
         self.given
+    }
+
+    /// Passes over the first event.
+    pub fn pass_one(&mut self) {
+        drop(self.events.pop_front());
+        self.given = self.given.saturating_add(1);
     }
 
     /// Answers what stands behind the events. A fault is counted.
@@ -110,7 +116,7 @@ fn no_memory<'e>() -> ParseError<'e>
 
 impl<'de> FormatParser<'de> for Listed<'de> {
     ghost use Rattle.std.specs.Prelude.{false, option_map};
-    ghost use Rattle.format_read.specs.Untold.{io_at, untold};
+    ghost use Rattle.format_read_tests.specs.Untold.{io_at, untold};
 
     ghost parsing = { λ p. untold p.events.items (option_map io_at p.fault) p.faults };
 
