@@ -28,6 +28,3 @@ pub use reflect::{ReflectError, ReflectErrorKind};
 pub use scalar::ScalarValue;
 pub use span::Span;
 pub use steps::Steps;
-
-#[cfg(test)]
-mod tests;

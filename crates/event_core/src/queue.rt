@@ -11,9 +11,6 @@ use std::collections::VecDeque;
 use std::marker::Model;
 use std::sync::ledger::Ledger;
 
-#[cfg(test)]
-mod tests;
-
 /// Events that were read ahead of those taken.
 ///
 /// It holds at most `capacity` events beyond the furthest one that was taken. Those taken while a save is open stay

@@ -1,4 +1,4 @@
-use Rattle.event_core.proofs.queue.tests.events_are_taken_in_order.Given as goal
+use Rattle.event_core_tests.proofs.tests.queue.events_are_taken_in_order.Given as goal
 
 -- the ledger that the test opens
 abbrev pub ghosts-takes_in_order : goal.ghosts-takes_in_order

@@ -1,23 +1,29 @@
 use crate::tests::{PLACE, lines, told};
-use crate::{MetaSource, ValueMeta, ValueMetaBuilder};
+use event_core::{MetaSource, ValueMeta, ValueMetaBuilder};
 use shape_core::{Items, Text};
-use std::test::Fail;
+use std::process::Abort;
 
 #[test]
-fn metadata_are_set_part_by_part(rt: HostRuntime) -> Result<(), Fail> {
+fn metadata_are_set_part_by_part(rt: HostRuntime) {
     let alloc = rt.alloc();
-    let told = told(alloc)?;
+    let told = told(&rt, alloc);
     assert_eq!(rt; told.doc().map(|lines| lines.len()), Some(2));
     assert!(rt; told.tag() == Some(&Text::Borrowed("t")));
     assert_eq!(rt; told.span(), Some(PLACE));
-    let lines = Some(lines(alloc)?);
     let again = ValueMeta::builder()
-        .maybe_doc(lines)
+        .maybe_doc(Some(lines(&rt, alloc)))
         .maybe_tag(Some(Text::Borrowed("t")))
         .span(PLACE)
         .build();
     assert!(rt; again == told);
-    Ok(())
+    drop(again);
+    drop(told);
+}
+
+/// What was set is nothing, or something.
+fn is_empty(rt: &impl Abort, meta: ValueMeta<'static>, empty: bool) {
+    assert_eq!(rt; meta.is_empty(), empty);
+    drop(meta);
 }
 
 #[test]
@@ -29,23 +35,21 @@ fn nothing_set_is_empty(rt: HostRuntime) {
         .maybe_doc(None)
         .maybe_tag(None)
         .build();
-    assert!(rt; none.is_empty());
     assert!(rt; none == ValueMeta::empty());
-    assert!(rt; ValueMeta::default().is_empty());
-    assert!(rt; ValueMetaBuilder::default().build().is_empty());
-    assert!(rt; !ValueMeta::builder().span(PLACE).build().is_empty());
-    assert!(rt;
-        !ValueMeta::builder()
-            .tag(Text::Borrowed(""))
-            .build()
-            .is_empty()
-    );
+    is_empty(&rt, none, true);
+    is_empty(&rt, ValueMeta::default(), true);
+    is_empty(&rt, ValueMetaBuilder::default().build(), true);
+    is_empty(&rt, ValueMeta::builder().span(PLACE).build(), false);
+    let tagged = ValueMeta::builder().tag(Text::Borrowed("")).build();
+    is_empty(&rt, tagged, false);
 }
 
 #[test]
 fn metadata_come_from_a_source(rt: HostRuntime) {
     let given = MetaSource::from(ValueMeta::empty());
-    assert!(rt; matches!(given, MetaSource::Owned(_)));
+    assert!(rt; matches!(&given, MetaSource::Owned(_)));
+    drop(given);
     let none = MetaSource::default();
-    assert!(rt; matches!(none, MetaSource::FromEvents));
+    assert!(rt; matches!(&none, MetaSource::FromEvents));
+    drop(none);
 }
