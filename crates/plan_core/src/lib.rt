@@ -6,6 +6,3 @@ mod strategy;
 
 pub use plans::TypePlans;
 pub use strategy::DeserStrategy;
-
-#[cfg(test)]
-mod tests;
