@@ -9,6 +9,3 @@ mod target;
 mod text;
 
 pub use setter::scalar_value;
-
-#[cfg(test)]
-mod tests;
