@@ -12,6 +12,3 @@ pub use hints::{EnumVariantHint, SavePoint, ScalarTypeHint};
 pub use parser::FormatParser;
 pub use serializer::{FormatSerializer, WriteStop};
 pub use settings::{EnumVariantEncoding, FieldOrdering, MapEncoding, StructFieldMode};
-
-#[cfg(test)]
-mod tests;
