@@ -9,7 +9,7 @@ use shape_core::{Name, ShapeName, Text};
 use std::fmt::Debug;
 
 /// What is wrong with the input, or with the value that it holds. `'e` is how long its texts are borrowed.
-#[derive(Debug, Drop)]
+#[derive(Drop)]
 pub enum DeserializeErrorKind<'e> {
     /// A character that can't stand there.
     UnexpectedChar {

@@ -135,11 +135,18 @@ impl<'de> ParseEvent<'de> {
         ensures { HasTold (metadata_of meta.entry) self.entry result }
     {
         if meta.is_empty() {
+            drop(meta);
             return self;
         }
+        let ParseEvent {
+            kind,
+            span,
+            meta: before,
+        } = self;
+        drop(before);
         ParseEvent {
-            kind: self.kind,
-            span: self.span,
+            kind,
+            span,
             meta: Some(meta),
         }
     }
@@ -165,7 +172,10 @@ impl<'de> ParseEvent<'de> {
                 span: self.span,
                 meta,
             }),
-            Err(refused) => Err(refused),
+            Err(refused) => {
+                drop(kind);
+                Err(refused)
+            }
         }
     }
 }

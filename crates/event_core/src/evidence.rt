@@ -87,7 +87,10 @@ impl<'de> FieldEvidence<'de> {
                 value_type: self.value_type,
                 scalar_value,
             }),
-            Err(refused) => Err(refused),
+            Err(refused) => {
+                drop(name);
+                Err(refused)
+            }
         }
     }
 }

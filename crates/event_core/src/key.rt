@@ -210,7 +210,7 @@ impl<'de> FieldKey<'de> {
                 Err(refused) => Err(refused),
             },
             FieldKey::Full(full) => match full.get().try_clone(alloc) {
-                Ok(full) => Ok(FieldKey::Full(Boxed::new(alloc, full)?)),
+                Ok(full) => boxed(alloc, full),
                 Err(refused) => Err(refused),
             },
         }
@@ -232,7 +232,10 @@ impl<'de> FullFieldKey<'de> {
                 location: self.location,
                 meta,
             }),
-            Err(refused) => Err(refused),
+            Err(refused) => {
+                drop(name);
+                Err(refused)
+            }
         }
     }
 }
@@ -251,5 +254,14 @@ fn full<'de>(
         location,
         meta,
     };
-    Ok(FieldKey::Full(Boxed::new(alloc, full)?))
+    boxed(alloc, full)
+}
+
+fn boxed<'de>(alloc: Global, full: FullFieldKey<'de>) -> Result<FieldKey<'de>, OutOfMemory>
+    ensures { IfOk result (λ key. key ≡ Full full.entry) }
+{
+    match Boxed::new(alloc, full) {
+        Ok(full) => Ok(FieldKey::Full(full)),
+        Err(refused) => Err(refused),
+    }
 }

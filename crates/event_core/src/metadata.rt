@@ -1,5 +1,5 @@
 //! What is told of a value beside its content.
-ghost use Rattle.std.specs.Prelude.{◌≡◌, ◌↔◌, Some, IsTrue, IfOk, map, option_copied};
+ghost use Rattle.std.specs.Prelude.{◌≡◌, ◌↔◌, ◌++◌, [], ◌∷◌, Some, IsTrue, IfOk, OnOk, map, option_copied};
 ghost use Rattle.std.specs.Option.{option_map};
 ghost use Rattle.shape_core.specs.Texts.{phrase_of};
 ghost use Rattle.event_core.specs.Metadata.{span_view, lines_of, metadata_of, built, no_metadata, nonempty, told_or, given_or};
@@ -157,7 +157,10 @@ impl<'a> ValueMeta<'a> {
                 tag,
                 span: self.span,
             }),
-            Err(refused) => Err(refused),
+            Err(refused) => {
+                drop(doc);
+                Err(refused)
+            }
         }
     }
 }
@@ -240,16 +243,27 @@ fn lines<'s, 'a>(doc: &'s [Text<'a>]) -> Option<&'s [Text<'a>]>
     if doc.is_empty() { None } else { Some(doc) }
 }
 
+/// Puts a copy of the line behind the others.
+fn push_copy<'a>(
+    alloc: Global,
+    lines: &mut Items<Text<'a>>,
+    line: &Text<'a>,
+) -> Result<(), OutOfMemory>
+    ensures { OnOk result (lines.new ≡ lines.old ++ line.now ∷ []) }
+{
+    match line.try_clone(alloc) {
+        Ok(line) => lines.push(line),
+        Err(refused) => Err(refused),
+    }
+}
+
 /// The same lines again.
 fn clone_lines<'a>(alloc: Global, doc: &[Text<'a>]) -> Result<Items<Text<'a>>, OutOfMemory>
     ensures { IfOk result (λ copy. copy ≡ doc.now) }
 {
     let mut copy = Items::new(alloc);
     'lines: for line in doc {
-        match line.try_clone(alloc) {
-            Ok(line) => copy.push(line)?,
-            Err(refused) => return Err(refused),
-        }
+        push_copy(alloc, &mut copy, line)?;
     }
     Ok(copy)
 }

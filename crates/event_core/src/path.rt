@@ -4,6 +4,7 @@ ghost use Rattle.std.specs.List.{flat_map};
 ghost use Rattle.std.specs.Fmt.{DisplaysOnOk};
 ghost use Rattle.event_core.specs.ErrorTexts.{step_text};
 
+use crate::texts::write_two;
 use shape_core::{Items, OutOfMemory, Text};
 use std::alloc::Global;
 use std::fmt;
@@ -106,7 +107,7 @@ impl<'e> Path<'e> {
     {
         let mut copy = Path::new(alloc);
         'steps: for step in self.steps() {
-            copy.push(step.try_clone(alloc)?)?;
+            push_copy(alloc, &mut copy, step)?;
         }
         Ok(copy)
     }
@@ -120,15 +121,9 @@ impl fmt::Display for PathSegment<'_> {
 
     fn fmt<W: fmt::Write>(&self, f: &mut fmt::Formatter<W>) -> fmt::Result {
         match self {
-            PathSegment::Field(name) => {
-                let name = name.as_str();
-                write!(f, ".{name}")
-            }
+            PathSegment::Field(name) => write_two(".", name.as_str(), f),
             PathSegment::Index(at) => write!(f, "[{at}]"),
-            PathSegment::Variant(name) => {
-                let name = name.as_str();
-                write!(f, "::{name}")
-            }
+            PathSegment::Variant(name) => write_two("::", name.as_str(), f),
         }
     }
 }
@@ -142,10 +137,24 @@ impl fmt::Display for Path<'_> {
     fn fmt<W: fmt::Write>(&self, f: &mut fmt::Formatter<W>) -> fmt::Result {
         let steps = self.steps();
         if steps.is_empty() {
-            write!(f, "<root>")
+            f.write_str("<root>")
         } else {
             write_steps(steps, f)
         }
+    }
+}
+
+/// Goes a copy of the step further.
+fn push_copy<'e>(
+    alloc: Global,
+    path: &mut Path<'e>,
+    step: &PathSegment<'e>,
+) -> Result<(), OutOfMemory>
+    ensures { OnOk result (path.new ≡ path.old ++ step.now ∷ []) }
+{
+    match step.try_clone(alloc) {
+        Ok(step) => path.push(step),
+        Err(refused) => Err(refused),
     }
 }
 

@@ -3,7 +3,7 @@ use crate::path::Path;
 use shape_core::{Name, ShapeName};
 
 /// Why a call that builds a value refused. `'e` is how long its texts are borrowed.
-#[derive(Debug, Drop)]
+#[derive(Drop)]
 pub enum ReflectErrorKind<'e> {
     /// A field of the shape was not set.
     UninitializedField {

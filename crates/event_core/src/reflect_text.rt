@@ -1,5 +1,6 @@
 //! What the refusals of a builder print.
 use crate::reflect::{ReflectError, ReflectErrorKind};
+use crate::texts::{write_five, write_four, write_two};
 use std::error::Error;
 use std::fmt;
 
@@ -12,25 +13,43 @@ impl fmt::Display for ReflectErrorKind<'_> {
     fn fmt<W: fmt::Write>(&self, f: &mut fmt::Formatter<W>) -> fmt::Result {
         match self {
             ReflectErrorKind::UninitializedField { shape, field } => {
-                let field = field.as_str();
-                write!(f, "field `{field}` of {shape} not set")
+                let shape = shape.name.as_str();
+                write_five("field `", field.as_str(), "` of ", shape, " not set", f)
             }
             ReflectErrorKind::ParseFailed { shape, text } => {
-                let text = text.as_str();
-                write!(f, "failed to parse `{text}` as {shape}")
+                write_four(
+                    "failed to parse `",
+                    text.as_str(),
+                    "` as ",
+                    shape.name.as_str(),
+                    f,
+                )
             }
             ReflectErrorKind::NoSuchVariant { shape, name } => {
-                let name = name.as_str();
-                write!(f, "no variant `{name}` in {shape}")
+                write_four(
+                    "no variant `",
+                    name.as_str(),
+                    "` in ",
+                    shape.name.as_str(),
+                    f,
+                )
             }
             ReflectErrorKind::NoSuchDiscriminant {
                 shape,
                 discriminant,
             } => write!(f, "no variant with discriminant {discriminant} in {shape}"),
             ReflectErrorKind::WrongKind { shape, got } => {
-                write!(f, "wrong kind: got {got}, expected {shape}")
+                write_four(
+                    "wrong kind: got ",
+                    got,
+                    ", expected ",
+                    shape.name.as_str(),
+                    f,
+                )
             }
-            ReflectErrorKind::NoDefault { shape } => write!(f, "{shape} has no default"),
+            ReflectErrorKind::NoDefault { shape } => {
+                write_two(shape.name.as_str(), " has no default", f)
+            }
             ReflectErrorKind::ArrayLength {
                 shape,
                 expected,
@@ -39,9 +58,18 @@ impl fmt::Display for ReflectErrorKind<'_> {
             ReflectErrorKind::TooManyElements { shape, count } => {
                 write!(f, "more than {count} elements for {shape}")
             }
-            ReflectErrorKind::KeyForm { shape } => write!(f, "{shape} can't be a map key"),
-            ReflectErrorKind::Alloc => write!(f, "out of memory"),
+            ReflectErrorKind::KeyForm { shape } => {
+                write_two(shape.name.as_str(), " can't be a map key", f)
+            }
+            ReflectErrorKind::Alloc => f.write_str("out of memory"),
         }
+    }
+}
+
+/// Its debug form is what it prints.
+impl fmt::Debug for ReflectErrorKind<'_> {
+    fn fmt<W: fmt::Write>(&self, f: &mut fmt::Formatter<W>) -> fmt::Result {
+        write!(f, "{self}")
     }
 }
 

@@ -1,5 +1,5 @@
 //! The scalars of events.
-ghost use Rattle.std.specs.Prelude.{◌≡◌, IfOk, IfSome};
+ghost use Rattle.std.specs.Prelude.{◌≡◌, IfOk, IfSome, Some};
 ghost use Rattle.event_core.specs.Kinds.{scalar_name};
 ghost use Rattle.event_core.specs.ScalarTexts.{string_of, display_of, in_brackets};
 
@@ -57,15 +57,15 @@ impl<'de> ScalarValue<'de> {
         ensures { IfOk result (λ text. text ≡ string_of self.now) }
     {
         match self {
-            ScalarValue::Unit => Ok(Some(Name::copy(alloc, "")?)),
-            ScalarValue::Null => Ok(Some(Name::copy(alloc, "null")?)),
-            ScalarValue::Bool(told) => Ok(Some(Name::from_string(told.to_string(alloc)?))),
-            ScalarValue::Char(letter) => Ok(Some(Name::from_string(letter.to_string(alloc)?))),
-            ScalarValue::I64(number) => Ok(Some(Name::from_string(number.to_string(alloc)?))),
-            ScalarValue::U64(number) => Ok(Some(Name::from_string(number.to_string(alloc)?))),
-            ScalarValue::I128(number) => Ok(Some(Name::from_string(number.to_string(alloc)?))),
-            ScalarValue::U128(number) => Ok(Some(Name::from_string(number.to_string(alloc)?))),
-            ScalarValue::Str(text) => Ok(Some(Name::copy(alloc, text.as_str())?)),
+            ScalarValue::Unit => copied(alloc, ""),
+            ScalarValue::Null => copied(alloc, "null"),
+            ScalarValue::Bool(told) => shown(alloc, told),
+            ScalarValue::Char(letter) => shown(alloc, letter),
+            ScalarValue::I64(number) => shown(alloc, number),
+            ScalarValue::U64(number) => shown(alloc, number),
+            ScalarValue::I128(number) => shown(alloc, number),
+            ScalarValue::U128(number) => shown(alloc, number),
+            ScalarValue::Str(text) => copied(alloc, text.as_str()),
             ScalarValue::Bytes(_) => Ok(None),
         }
     }
@@ -112,6 +112,20 @@ impl<'de> ScalarValue<'de> {
             },
         }
     }
+}
+
+/// What is shown.
+fn shown<T: Display>(alloc: Global, shown: &T) -> Result<Option<Name>, OutOfMemory>
+    ensures { IfOk result (λ text. IfSome (T.output shown.now) (λ bytes. text ≡ Some bytes)) }
+{
+    Ok(Some(Name::from_string(shown.to_string(alloc)?)))
+}
+
+/// The text.
+fn copied(alloc: Global, text: &str) -> Result<Option<Name>, OutOfMemory>
+    ensures { IfOk result (λ copy. copy ≡ Some text.now) }
+{
+    Ok(Some(Name::copy(alloc, text)?))
 }
 
 /// A word, and what is shown in round brackets.
