@@ -122,7 +122,9 @@ fn text_value<'de>(
     if borrow || !text.is_borrowed() {
         return Ok(Value::Text(text));
     }
-    match text.to_owned(target.alloc) {
+    let owned = text.to_owned(target.alloc);
+    drop(text);
+    match owned {
         Ok(text) => Ok(Value::Text(text)),
         Err(_) => Err(out_of_memory()),
     }
@@ -139,6 +141,7 @@ fn borrowed_value<'de>(
     if borrow && text.is_borrowed() {
         Ok(Value::Text(text))
     } else {
+        drop(text);
         Err(target.cannot_borrow())
     }
 }
@@ -177,7 +180,15 @@ pub(crate) fn set_text<'de>(
     match target.scalar {
         ScalarType::String => text_value(target, text, borrow),
         ScalarType::Str => borrowed_value(target, text, borrow),
-        ScalarType::Unit => Err(target.wrong_kind()),
-        scalar => set_parsed(target, text.as_str(), read_text(scalar, text.as_str())),
+        ScalarType::Unit => {
+            drop(text);
+            Err(target.wrong_kind())
+        }
+        scalar => {
+            let value = read_text(scalar, text.as_str());
+            let answer = set_parsed(target, text.as_str(), value);
+            drop(text);
+            answer
+        }
     }
 }
