@@ -20,18 +20,42 @@ impl<'de> Value<'de> {
             Value::Char(c) => Ok(Value::Char(*c)),
             Value::Unsigned(n) => Ok(Value::Unsigned(*n)),
             Value::Signed(n) => Ok(Value::Signed(*n)),
-            Value::Text(text) => Ok(Value::Text(text.try_clone(alloc)?)),
+            Value::Text(text) => match text.try_clone(alloc) {
+                Ok(made) => Ok(Value::Text(made)),
+                Err(refused) => Err(refused),
+            },
             Value::None => Ok(Value::None),
-            Value::Some(inner) => Ok(Value::Some(copy_boxed(inner, alloc)?)),
-            Value::Ok(inner) => Ok(Value::Ok(copy_boxed(inner, alloc)?)),
-            Value::Err(inner) => Ok(Value::Err(copy_boxed(inner, alloc)?)),
-            Value::List(items) => Ok(Value::List(copy_items(items, alloc)?)),
-            Value::Map(pairs) => Ok(Value::Map(copy_pairs(pairs, alloc)?)),
-            Value::Struct(fields) => Ok(Value::Struct(copy_items(fields, alloc)?)),
-            Value::Enum { variant, fields } => Ok(Value::Enum {
-                variant: *variant,
-                fields: copy_items(fields, alloc)?,
-            }),
+            Value::Some(inner) => match copy_boxed(inner, alloc) {
+                Ok(made) => Ok(Value::Some(made)),
+                Err(refused) => Err(refused),
+            },
+            Value::Ok(inner) => match copy_boxed(inner, alloc) {
+                Ok(made) => Ok(Value::Ok(made)),
+                Err(refused) => Err(refused),
+            },
+            Value::Err(inner) => match copy_boxed(inner, alloc) {
+                Ok(made) => Ok(Value::Err(made)),
+                Err(refused) => Err(refused),
+            },
+            Value::List(items) => match copy_items(items, alloc) {
+                Ok(made) => Ok(Value::List(made)),
+                Err(refused) => Err(refused),
+            },
+            Value::Map(pairs) => match copy_pairs(pairs, alloc) {
+                Ok(made) => Ok(Value::Map(made)),
+                Err(refused) => Err(refused),
+            },
+            Value::Struct(fields) => match copy_items(fields, alloc) {
+                Ok(made) => Ok(Value::Struct(made)),
+                Err(refused) => Err(refused),
+            },
+            Value::Enum { variant, fields } => match copy_items(fields, alloc) {
+                Ok(made) => Ok(Value::Enum {
+                    variant: *variant,
+                    fields: made,
+                }),
+                Err(refused) => Err(refused),
+            },
         }
     }
 
@@ -53,18 +77,42 @@ impl<'de> Value<'de> {
             Value::Char(c) => Ok(Value::Char(*c)),
             Value::Unsigned(n) => Ok(Value::Unsigned(*n)),
             Value::Signed(n) => Ok(Value::Signed(*n)),
-            Value::Text(text) => Ok(Value::Text(text.to_owned(alloc)?)),
+            Value::Text(text) => match text.to_owned(alloc) {
+                Ok(made) => Ok(Value::Text(made)),
+                Err(refused) => Err(refused),
+            },
             Value::None => Ok(Value::None),
-            Value::Some(inner) => Ok(Value::Some(own_boxed(inner, alloc)?)),
-            Value::Ok(inner) => Ok(Value::Ok(own_boxed(inner, alloc)?)),
-            Value::Err(inner) => Ok(Value::Err(own_boxed(inner, alloc)?)),
-            Value::List(items) => Ok(Value::List(own_items(items, alloc)?)),
-            Value::Map(pairs) => Ok(Value::Map(own_pairs(pairs, alloc)?)),
-            Value::Struct(fields) => Ok(Value::Struct(own_items(fields, alloc)?)),
-            Value::Enum { variant, fields } => Ok(Value::Enum {
-                variant: *variant,
-                fields: own_items(fields, alloc)?,
-            }),
+            Value::Some(inner) => match own_boxed(inner, alloc) {
+                Ok(made) => Ok(Value::Some(made)),
+                Err(refused) => Err(refused),
+            },
+            Value::Ok(inner) => match own_boxed(inner, alloc) {
+                Ok(made) => Ok(Value::Ok(made)),
+                Err(refused) => Err(refused),
+            },
+            Value::Err(inner) => match own_boxed(inner, alloc) {
+                Ok(made) => Ok(Value::Err(made)),
+                Err(refused) => Err(refused),
+            },
+            Value::List(items) => match own_items(items, alloc) {
+                Ok(made) => Ok(Value::List(made)),
+                Err(refused) => Err(refused),
+            },
+            Value::Map(pairs) => match own_pairs(pairs, alloc) {
+                Ok(made) => Ok(Value::Map(made)),
+                Err(refused) => Err(refused),
+            },
+            Value::Struct(fields) => match own_items(fields, alloc) {
+                Ok(made) => Ok(Value::Struct(made)),
+                Err(refused) => Err(refused),
+            },
+            Value::Enum { variant, fields } => match own_items(fields, alloc) {
+                Ok(made) => Ok(Value::Enum {
+                    variant: *variant,
+                    fields: made,
+                }),
+                Err(refused) => Err(refused),
+            },
         }
     }
 }
@@ -95,14 +143,26 @@ fn copy_items<'de>(
 }
 
 #[cycle(copy)]
+fn copy_pair<'de>(pair: &Pair<'de>, alloc: Global) -> Result<Pair<'de>, OutOfMemory>
+    ensures { IfOk result (λ p. entry_of p ≡ entry_of pair.now) }
+{
+    let key = pair.key.try_clone(alloc)?;
+    match pair.value.try_clone(alloc) {
+        Ok(value) => Ok(Pair { key, value }),
+        Err(refused) => {
+            drop(key);
+            Err(refused)
+        }
+    }
+}
+
+#[cycle(copy)]
 fn copy_pairs<'de>(pairs: &Items<Pair<'de>>, alloc: Global) -> Result<Items<Pair<'de>>, OutOfMemory>
     ensures { IfOk result (λ ps. map entry_of ps ≡ map entry_of pairs.now) }
 {
     let mut copies = Items::new(alloc);
     for pair in pairs.as_slice() {
-        let key = pair.key.try_clone(alloc)?;
-        let value = pair.value.try_clone(alloc)?;
-        copies.push(Pair { key, value })?;
+        copies.push(copy_pair(pair, alloc)?)?;
     }
     Ok(copies)
 }
@@ -127,14 +187,26 @@ fn own_items<'a>(items: &Items<Value<'_>>, alloc: Global) -> Result<Items<Value<
 }
 
 #[cycle(own)]
+fn own_pair<'a>(pair: &Pair<'_>, alloc: Global) -> Result<Pair<'a>, OutOfMemory>
+    ensures { IfOk result (λ p. entry_of p ≡ owned_entry_of pair.now) }
+{
+    let key = pair.key.to_owned(alloc)?;
+    match pair.value.to_owned(alloc) {
+        Ok(value) => Ok(Pair { key, value }),
+        Err(refused) => {
+            drop(key);
+            Err(refused)
+        }
+    }
+}
+
+#[cycle(own)]
 fn own_pairs<'a>(pairs: &Items<Pair<'_>>, alloc: Global) -> Result<Items<Pair<'a>>, OutOfMemory>
     ensures { IfOk result (λ ps. map entry_of ps ≡ map owned_entry_of pairs.now) }
 {
     let mut copies = Items::new(alloc);
     for pair in pairs.as_slice() {
-        let key = pair.key.to_owned(alloc)?;
-        let value = pair.value.to_owned(alloc)?;
-        copies.push(Pair { key, value })?;
+        copies.push(own_pair(pair, alloc)?)?;
     }
     Ok(copies)
 }

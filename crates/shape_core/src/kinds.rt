@@ -42,10 +42,16 @@ fn misplaces(fields: &[Field]) -> bool
     false
 }
 
+fn variant_misplaces(variant: &Variant) -> bool
+    ensures { result ≡ (is_tuple (variant_of variant.now).kind && misplaces 0 (variant_of variant.now).fields) }
+{
+    is_tuple(variant.kind) && misplaces(variant.fields.as_slice())
+}
+
 fn variants_misplace(variants: &[Variant]) -> bool
     ensures { result ≡ list_any (λ v. is_tuple (variant_of v).kind && misplaces 0 (variant_of v).fields) variants.now }
 {
-    variants.iter().any(|variant| is_tuple(variant.kind) && misplaces(variant.fields.as_slice()))
+    variants.iter().any(variant_misplaces)
 }
 
 #[tactic(auto, using(crate::proofs::Lists::list_any_map))]
@@ -75,10 +81,16 @@ fn has_some(fields: &[Field]) -> bool
     !fields.is_empty()
 }
 
+fn variant_is_bad_unit(variant: &Variant) -> bool
+    ensures { result ≡ (is_unit (variant_of variant.now).kind && has_some (variant_of variant.now).fields) }
+{
+    is_unit(variant.kind) && has_some(variant.fields.as_slice())
+}
+
 fn variants_are_bad_units(variants: &[Variant]) -> bool
     ensures { result ≡ list_any (λ v. is_unit (variant_of v).kind && has_some (variant_of v).fields) variants.now }
 {
-    variants.iter().any(|variant| is_unit(variant.kind) && has_some(variant.fields.as_slice()))
+    variants.iter().any(variant_is_bad_unit)
 }
 
 #[tactic(auto, using(crate::proofs::Lists::list_any_map))]

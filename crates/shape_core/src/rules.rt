@@ -22,7 +22,12 @@ fn is_missing(count: usize, id: ShapeId) -> bool
 fn fields_dangle(count: usize, fields: &[Field]) -> bool
     ensures { result ≡ list_any (λ f. is_missing count (field_of f).shape) fields.now }
 {
-    fields.iter().any(|field| is_missing(count, field.shape))
+    for field in fields {
+        if is_missing(count, field.shape) {
+            return true;
+        }
+    }
+    false
 }
 
 #[tactic(auto, using(crate::proofs::Lists::list_any_map))]
@@ -35,9 +40,12 @@ fn variant_dangles(count: usize, variant: &Variant) -> bool
 fn variants_dangle(count: usize, variants: &[Variant]) -> bool
     ensures { result ≡ list_any (λ v. list_any (λ f. is_missing count f.shape) (variant_of v).fields) variants.now }
 {
-    variants
-        .iter()
-        .any(|variant| variant_dangles(count, variant))
+    for variant in variants {
+        if variant_dangles(count, variant) {
+            return true;
+        }
+    }
+    false
 }
 
 #[tactic(auto, using(crate::proofs::Lists::list_any_map))]
@@ -71,7 +79,12 @@ pub fn is_undefined(count: usize, def: &Option<Def>) -> bool
 fn has_shape_name(drafts: &[Draft], draft: &Draft) -> bool
     ensures { result ≡ list_any (λ e. bytes_eq e.name draft.now.name) drafts.now }
 {
-    drafts.iter().any(|other| other.name == draft.name)
+    for other in drafts {
+        if other.name == draft.name {
+            return true;
+        }
+    }
+    false
 }
 
 /// One of the first `at` shapes has the name of this one.
@@ -86,7 +99,12 @@ pub fn repeats_shape_name(drafts: &[Draft], at: usize, draft: &Draft) -> bool
 fn has_field_name(field: &Field, others: &[Field]) -> bool
     ensures { result ≡ list_any (λ e. bytes_eq field.now.name e.name) others.now }
 {
-    others.iter().any(|other| field.name == other.name)
+    for other in others {
+        if field.name == other.name {
+            return true;
+        }
+    }
+    false
 }
 
 #[tactic(auto, using(crate::proofs::Lists::list_any_map))]
@@ -103,18 +121,27 @@ fn repeats_field(fields: &[Field]) -> bool
     false
 }
 
+fn variant_repeats_field(variant: &Variant) -> bool
+    ensures { result ≡ repeats_field (variant_of variant.now).fields }
+{
+    repeats_field(variant.fields.as_slice())
+}
+
 fn variants_repeat_field(variants: &[Variant]) -> bool
     ensures { result ≡ list_any (λ v. repeats_field (variant_of v).fields) variants.now }
 {
-    variants
-        .iter()
-        .any(|variant| repeats_field(variant.fields.as_slice()))
+    variants.iter().any(variant_repeats_field)
 }
 
 fn has_variant_name(variant: &Variant, others: &[Variant]) -> bool
     ensures { result ≡ list_any (λ w. bytes_eq variant.now.name w.name) others.now }
 {
-    others.iter().any(|other| variant.name == other.name)
+    for other in others {
+        if variant.name == other.name {
+            return true;
+        }
+    }
+    false
 }
 
 #[tactic(auto, using(crate::proofs::Lists::list_any_map))]
@@ -167,12 +194,16 @@ fn is_long(fields: &[Field]) -> bool
     fields.len() > LIMIT
 }
 
+fn variant_is_long(variant: &Variant) -> bool
+    ensures { result ≡ is_long (variant_of variant.now).fields }
+{
+    is_long(variant.fields.as_slice())
+}
+
 fn variants_are_long(variants: &[Variant]) -> bool
     ensures { result ≡ list_any (λ v. is_long (variant_of v).fields) variants.now }
 {
-    variants
-        .iter()
-        .any(|variant| is_long(variant.fields.as_slice()))
+    variants.iter().any(variant_is_long)
 }
 
 #[tactic(auto, using(crate::proofs::Lists::list_any_map))]
