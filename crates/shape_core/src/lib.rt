@@ -46,6 +46,3 @@ pub use shape::{Shape, ShapeId, ShapeName};
 pub use shapes::Shapes;
 pub use text::Text;
 pub use value::{Pair, Value};
-
-#[cfg(test)]
-mod tests;

@@ -1,2 +1,0 @@
-mod registries;
-mod values;

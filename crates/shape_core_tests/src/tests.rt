@@ -1,0 +1,5 @@
+mod building;
+mod faults;
+mod lookups;
+mod texts;
+mod values;
