@@ -17,9 +17,6 @@ use shape_core::{
 };
 use std::alloc::Global;
 
-#[cfg(test)]
-mod tests;
-
 /// A struct without names, of these items.
 fn bare_struct(kind: StructKind, fields: Items<Field<'_>>) -> Def<'_>
     ensures { definition_of result ≡ struct_said (struct_kind_of kind) (map field_of fields.entry) false false false }

@@ -11,9 +11,6 @@ use crate::shape_names::{Scope, all_maps, all_names, check_references};
 use shape_core::{CheckFault, Shapes, ShapesBuilder};
 use std::alloc::Global;
 
-#[cfg(test)]
-mod tests;
-
 /// The registry that a text describes: the scalars, and then the shapes of the text in their order.
 ///
 /// A line `shape NAME ..` begins a shape, and lines `item ..`, `field ..` and `variant ..` behind it say what it is made

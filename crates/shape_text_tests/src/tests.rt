@@ -1,0 +1,9 @@
+use std::process::Abort;
+
+mod faults;
+mod shapes;
+
+/// Ends the test where a row of its table doesn't hold.
+pub fn assert_row(rt: &impl Abort, at: usize, holds: bool) {
+    assert!(rt; holds, "row {at}");
+}
