@@ -1,6 +1,7 @@
 //! The shapes that lines describe.
 ghost use Rattle.std.specs.Prelude.{◌≡◌, ◌<◌, ◌≤◌, map, length, false, IfOk, OnOk};
 ghost use Rattle.semantics.specs.Shapes.{named_kind};
+ghost use Rattle.semantics.specs.ShapeLines.{tuple_head, struct_head, enum_head};
 ghost use Rattle.semantics.specs.ShapeText.{AreLines, definition_said, scope_of, shape_count, shapes_of};
 ghost use Rattle.shape_core.specs.Shapes.{definition_of, struct_kind_of, field_of, enum_form_of, drafts_of};
 ghost use Rattle.shape_text.specs.ShapeLines.{head_view, form_view, shape_line};
@@ -65,6 +66,50 @@ fn form(alloc: Global, line: FormLine<'_>) -> Result<EnumForm, OutOfMemory>
     }
 }
 
+/// A struct of the items at the front of the lines.
+fn tuple_definition<'v>(
+    alloc: Global,
+    scope: Scope<'_>,
+    lines: &[ShapeLine<'_>],
+) -> Result<Def<'v>, OutOfMemory>
+    requires { length scope.names.now ≤ 65535 }
+    ensures { IfOk result (λ def. definition_of def ≡ definition_said (scope_view scope.entry) tuple_head (map shape_line lines.now)) }
+{
+    let fields = members(alloc, scope, lines)?;
+    Ok(bare_struct(StructKind::TupleStruct, fields))
+}
+
+/// A struct of the fields at the front of the lines.
+fn struct_definition<'v>(
+    alloc: Global,
+    scope: Scope<'_>,
+    deny: bool,
+    default: bool,
+    container: bool,
+    lines: &[ShapeLine<'_>],
+) -> Result<Def<'v>, OutOfMemory>
+    requires { length scope.names.now ≤ 65535 }
+    ensures { IfOk result (λ def. definition_of def ≡ definition_said (scope_view scope.entry) (struct_head deny default container) (map shape_line lines.now)) }
+{
+    let fields = members(alloc, scope, lines)?;
+    Ok(named_struct(deny, default, container, fields))
+}
+
+/// An enum of the variants up to the next shape.
+fn enum_definition<'v>(
+    alloc: Global,
+    scope: Scope<'_>,
+    line: FormLine<'_>,
+    lines: &[ShapeLine<'_>],
+) -> Result<Def<'v>, OutOfMemory>
+    requires { length scope.names.now ≤ 65535 }
+    ensures { IfOk result (λ def. definition_of def ≡ definition_said (scope_view scope.entry) (enum_head (form_view line.entry)) (map shape_line lines.now)) }
+{
+    let variants = variants(alloc, scope, lines)?;
+    let form = form(alloc, line)?;
+    Ok(Def::Enum(EnumDef { form, variants }))
+}
+
 /// The shape of a line, with the lines behind it.
 fn definition<'v>(
     alloc: Global,
@@ -93,20 +138,13 @@ fn definition<'v>(
             len: *len,
         }),
         Head::Unit => Ok(bare_struct(StructKind::Unit, Items::new(alloc))),
-        Head::Tuple => Ok(bare_struct(StructKind::TupleStruct, members(alloc, scope, lines)?)),
+        Head::Tuple => tuple_definition(alloc, scope, lines),
         Head::Struct {
             deny,
             default,
             container,
-        } => {
-            let fields = members(alloc, scope, lines)?;
-            Ok(named_struct(*deny, *default, *container, fields))
-        }
-        Head::Enum(line) => {
-            let form = form(alloc, *line)?;
-            let variants = variants(alloc, scope, lines)?;
-            Ok(Def::Enum(EnumDef { form, variants }))
-        }
+        } => struct_definition(alloc, scope, *deny, *default, *container, lines),
+        Head::Enum(line) => enum_definition(alloc, scope, *line, lines),
     }
 }
 

@@ -76,10 +76,10 @@ fn field<'v>(
     ensures { IfOk result (λ field. field_of field ≡ field_said (scope_view scope.entry) (field_view line.now)) }
 {
     let shape = number_in(scope, line.shape);
-    let default = some_value(alloc, is_map_at(scope, shape), line.default)?;
     let name = Name::copy(alloc, line.name)?;
     let rename = some_text(alloc, line.rename)?;
     let alias = some_text(alloc, line.alias)?;
+    let default = some_value(alloc, is_map_at(scope, shape), line.default)?;
     Ok(Field {
         name,
         rename,

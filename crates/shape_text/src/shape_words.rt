@@ -35,7 +35,7 @@ fn is_name_byte(b: u8) -> bool
 fn has_name_bytes(text: &str) -> bool
     ensures { result ≡ list_all is_name_byte text.now }
 {
-    text.bytes().all(|b| is_name_byte(b))
+    text.bytes().all(is_name_byte)
 }
 
 /// One or more ASCII letters, digits or `_`.
