@@ -1,5 +1,7 @@
 mod building;
+mod defaults;
 mod faults;
 mod lookups;
+mod made;
 mod texts;
 mod values;
