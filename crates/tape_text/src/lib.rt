@@ -20,6 +20,3 @@ pub use bytes::TapeBytes;
 pub use grammar::{line_is_read, one_line_one_event, tape_is_read};
 pub use parser::TapeParser;
 pub use writer::{NoFault, TapeWriter};
-
-#[cfg(test)]
-mod tests;
