@@ -12,6 +12,3 @@ mod stop;
 mod values;
 
 pub use context::{SerializeContext, serialize_root};
-
-#[cfg(test)]
-mod tests;

@@ -15,7 +15,7 @@ pub(super) struct Broken;
 #[derive(Drop)]
 pub(super) struct Recorder {
     pub(super) calls: String,
-    pub(super) left: usize,
+    left: usize,
     faults: u64,
 }
 

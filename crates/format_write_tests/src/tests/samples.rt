@@ -1,16 +1,35 @@
-//! Values, told in a short form.
-use shape_core::{Boxed, Items, OutOfMemory, Text, Value};
+//! Shapes, and values that are told in a short form.
+use shape_core::{Items, OutOfMemory, Shapes, Value};
+use shape_text::{ReadShapesError, read_shapes};
 use std::alloc::Global;
+use std::test::Fail;
+
+const SHAPES: &[u8] = b"shape Option option u64
+shape List list u64
+shape Array array 2 u64
+shape Pair tuple
+item u64
+item bool
+shape Point struct
+field x u64
+field y Option
+";
+
+/// The shapes of the text.
+pub(super) fn shapes<'v>(alloc: Global) -> Result<Shapes<'v>, Fail> {
+    match read_shapes(alloc, SHAPES) {
+        Ok(shapes) => Ok(shapes),
+        Err(_) => Err("no shapes".into()),
+    }
+}
 
 /// A value without parts.
 #[derive(Clone, Copy)]
 pub(super) enum Leaf {
     Unit,
     Bool(bool),
-    Char(char),
     Unsigned(u128),
     Signed(i128),
-    Text(&'static str),
     None,
 }
 
@@ -18,9 +37,6 @@ pub(super) enum Leaf {
 #[derive(Clone, Copy)]
 pub(super) enum Made {
     Leaf(Leaf),
-    Some(Leaf),
-    Ok(Leaf),
-    Err(Leaf),
     List(&'static [Leaf]),
     Struct(&'static [Leaf]),
     Map,
@@ -30,45 +46,30 @@ fn of_leaf(leaf: Leaf) -> Value<'static> {
     match leaf {
         Leaf::Unit => Value::Unit,
         Leaf::Bool(told) => Value::Bool(told),
-        Leaf::Char(letter) => Value::Char(letter),
         Leaf::Unsigned(number) => Value::Unsigned(number),
         Leaf::Signed(number) => Value::Signed(number),
-        Leaf::Text(text) => Value::Text(Text::Borrowed(text)),
         Leaf::None => Value::None,
     }
 }
 
-fn boxed(alloc: Global, inner: Leaf) -> Result<Boxed<Value<'static>>, OutOfMemory> {
-    Boxed::new(alloc, of_leaf(inner))
+fn push_all(values: &mut Items<Value<'static>>, leaves: &[Leaf]) -> Result<(), OutOfMemory> {
+    'leaves: for inner in leaves {
+        values.push(of_leaf(*inner))?;
+    }
+    Ok(())
 }
 
 fn items(alloc: Global, leaves: &[Leaf]) -> Result<Items<Value<'static>>, OutOfMemory> {
     let mut values = Items::new(alloc);
-    for inner in leaves {
-        values.push(of_leaf(*inner))?;
-    }
+    push_all(&mut values, leaves)?;
     Ok(values)
 }
 
 pub(super) fn value(alloc: Global, made: Made) -> Result<Value<'static>, OutOfMemory> {
     match made {
         Made::Leaf(inner) => Ok(of_leaf(inner)),
-        Made::Some(inner) => Ok(Value::Some(boxed(alloc, inner)?)),
-        Made::Ok(inner) => Ok(Value::Ok(boxed(alloc, inner)?)),
-        Made::Err(inner) => Ok(Value::Err(boxed(alloc, inner)?)),
         Made::List(leaves) => Ok(Value::List(items(alloc, leaves)?)),
         Made::Struct(leaves) => Ok(Value::Struct(items(alloc, leaves)?)),
         Made::Map => Ok(Value::Map(Items::new(alloc))),
     }
-}
-
-/// An option that holds a struct that holds such an option, and so on, and at last nothing.
-pub(super) fn chain(alloc: Global, structs: usize) -> Result<Value<'static>, OutOfMemory> {
-    let mut value = Value::None;
-    for _level in 0..structs {
-        let mut fields = Items::new(alloc);
-        fields.push(value)?;
-        value = Value::Some(Boxed::new(alloc, Value::Struct(fields))?);
-    }
-    Ok(value)
 }
