@@ -37,6 +37,17 @@ Found = Option (Body × List ℕ)
 abbrev pub Reader : Type 0
 Reader = List ℕ → Found
 
+-- the words of letters, or of a letter and a dash, that are bodies by themselves
+abbrev pub letter_words : List (List ℕ × Body)
+letter_words =
+    (codes "unit", holds unit)
+    ∷ (codes "null", holds null)
+    ∷ (codes "true", holds (bool true))
+    ∷ (codes "false", holds (bool false))
+    ∷ (codes "k -", names None)
+    ∷ (codes "v -", tags None)
+    ∷ []
+
 -- the words that are bodies by themselves
 abbrev pub bare_words : List (List ℕ × Body)
 bare_words =
@@ -45,13 +56,7 @@ bare_words =
     ∷ (codes "[", opens of_sequence)
     ∷ (codes "]", closes of_sequence)
     ∷ (codes "o", next_field)
-    ∷ (codes "unit", holds unit)
-    ∷ (codes "null", holds null)
-    ∷ (codes "true", holds (bool true))
-    ∷ (codes "false", holds (bool false))
-    ∷ (codes "k -", names None)
-    ∷ (codes "v -", tags None)
-    ∷ []
+    ∷ letter_words
 
 abbrev pub fixed : List ℕ → Body → Reader
 fixed word body text = option_map (λ rest. (body, rest)) (strip word text)
@@ -95,19 +100,24 @@ large_at text = option_map (λ p. (holds (u128 p.0), p.1)) (number_at 128 text)
 unfoldable pub large_signed_at : Reader
 large_signed_at text = option_map (λ p. (holds (i128 p.0), p.1)) (signed_at 127 128 text)
 
--- the words that other bodies begin with
+-- the words that tags of variants and numbers begin with
+abbrev pub plain_rows : List (List ℕ × Reader)
+plain_rows =
+    (codes "v \"", variant_at)
+    ∷ (codes "u ", small_at)
+    ∷ (codes "i ", small_signed_at)
+    ∷ (codes "U ", large_at)
+    ∷ (codes "I ", large_signed_at)
+    ∷ []
+
+-- the words that bodies with a content begin with
 abbrev pub rows : List (List ℕ × Reader)
 rows =
     (codes "k ", key_at)
     ∷ (codes "s ", str_at)
     ∷ (codes "c ", letter_at)
     ∷ (codes "b ", hex_at)
-    ∷ (codes "v \"", variant_at)
-    ∷ (codes "u ", small_at)
-    ∷ (codes "i ", small_signed_at)
-    ∷ (codes "U ", large_at)
-    ∷ (codes "I ", large_signed_at)
-    ∷ []
+    ∷ plain_rows
 
 abbrev pub by_word : Reader → Found → Option (List ℕ) → Found
 by_word read others None = others

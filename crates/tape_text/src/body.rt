@@ -1,12 +1,12 @@
 //! Reading the body of a line: which event it is.
 ghost use Rattle.std.specs.Prelude.{◌≡◌, IfOk};
 ghost use Rattle.std.specs.Option.{option_map};
-ghost use Rattle.tape_text.specs.Bodies.{bare_at, key_at, str_at, letter_at, hex_at, variant_at, body_at};
+ghost use Rattle.tape_text.specs.Bodies.{bare_in, letter_words, bare_at, key_at, str_at, letter_at, hex_at, variant_at, body_in, plain_rows, rows, body_at};
 ghost use Rattle.tape_text.specs.Bodies.{small_at, small_signed_at, large_at, large_signed_at};
 ghost use Rattle.tape_text.specs.Views.{body_of};
 
-use crate::front::{after, bytes_at};
-use crate::numbers::{i64_at, i128_at, u64_at, u128_at};
+use crate::front::{after, unhexed, word};
+use crate::numbers::{number, signed, wide_number, wide_signed};
 use crate::quoted::{char_at, text_at, unquoted};
 use event_core::ScalarValue;
 use shape_core::{Bytes, OutOfMemory, Text};
@@ -33,6 +33,31 @@ pub enum LineBody<'de> {
     Scalar(ScalarValue<'de>),
 }
 
+/// A body that is a word of letters, or of a letter and a dash, and what stands behind it.
+fn word_at(text: &str) -> Option<(LineBody<'_>, &str)>
+    ensures { option_map (λ p. (body_of p.0, p.1.now)) result ≡ bare_in letter_words text.now }
+{
+    if let Some(rest) = after(text, "unit") {
+        return Some((LineBody::Scalar(ScalarValue::Unit), rest));
+    }
+    if let Some(rest) = after(text, "null") {
+        return Some((LineBody::Scalar(ScalarValue::Null), rest));
+    }
+    if let Some(rest) = after(text, "true") {
+        return Some((LineBody::Scalar(ScalarValue::Bool(true)), rest));
+    }
+    if let Some(rest) = after(text, "false") {
+        return Some((LineBody::Scalar(ScalarValue::Bool(false)), rest));
+    }
+    if let Some(rest) = after(text, "k -") {
+        return Some((LineBody::Key(None), rest));
+    }
+    if let Some(rest) = after(text, "v -") {
+        return Some((LineBody::Tag(None), rest));
+    }
+    None
+}
+
 /// A body that is a word, and what stands behind it.
 #[tactic(auto, unfolding(crate::specs::Bodies::bare_at))]
 fn bare_at(text: &str) -> Option<(LineBody<'_>, &str)>
@@ -53,25 +78,7 @@ fn bare_at(text: &str) -> Option<(LineBody<'_>, &str)>
     if let Some(rest) = after(text, "o") {
         return Some((LineBody::OrderedField, rest));
     }
-    if let Some(rest) = after(text, "unit") {
-        return Some((LineBody::Scalar(ScalarValue::Unit), rest));
-    }
-    if let Some(rest) = after(text, "null") {
-        return Some((LineBody::Scalar(ScalarValue::Null), rest));
-    }
-    if let Some(rest) = after(text, "true") {
-        return Some((LineBody::Scalar(ScalarValue::Bool(true)), rest));
-    }
-    if let Some(rest) = after(text, "false") {
-        return Some((LineBody::Scalar(ScalarValue::Bool(false)), rest));
-    }
-    if let Some(rest) = after(text, "k -") {
-        return Some((LineBody::Key(None), rest));
-    }
-    if let Some(rest) = after(text, "v -") {
-        return Some((LineBody::Tag(None), rest));
-    }
-    None
+    word_at(text)
 }
 
 /// The name of a key, and what stands behind it.
@@ -120,15 +127,16 @@ fn letter_at<'de>(
 }
 
 /// Bytes in hexadecimal, and what stands behind them.
-#[tactic(auto, unfolding(crate::specs::Bodies::hex_at))]
+#[tactic(auto, unfolding(crate::specs::Bodies::hex_at, crate::specs::Fronts::bytes_at))]
 fn hex_at<'de>(
     alloc: Global,
     text: &'de str,
 ) -> Result<Option<(LineBody<'de>, &'de str)>, OutOfMemory>
     ensures { IfOk result (λ found. option_map (λ p. (body_of p.0, p.1.now)) found ≡ hex_at text.now) }
 {
-    match bytes_at(alloc, text) {
-        Ok(Some((bytes, rest))) => {
+    let (digits, rest) = word(text);
+    match unhexed(alloc, digits.as_bytes()) {
+        Ok(Some(bytes)) => {
             let value = ScalarValue::Bytes(Bytes::Owned(bytes));
             Ok(Some((LineBody::Scalar(value), rest)))
         }
@@ -149,60 +157,82 @@ fn variant_at(text: &str) -> Option<(LineBody<'_>, &str)>
 }
 
 /// A number of 64 bits, and what stands behind it.
-#[tactic(auto, unfolding(crate::specs::Bodies::small_at))]
+#[tactic(auto, unfolding(crate::specs::Bodies::small_at, crate::specs::Fronts::number_at))]
 fn small_at(text: &str) -> Option<(LineBody<'_>, &str)>
     ensures { option_map (λ p. (body_of p.0, p.1.now)) result ≡ small_at text.now }
 {
-    match u64_at(text) {
-        Some((n, rest)) => Some((LineBody::Scalar(ScalarValue::U64(n)), rest)),
+    let (digits, rest) = word(text);
+    match number(digits) {
+        Some(n) => Some((LineBody::Scalar(ScalarValue::U64(n)), rest)),
         None => None,
     }
 }
 
 /// A number of 64 bits with a sign, and what stands behind it.
-#[tactic(auto, unfolding(crate::specs::Bodies::small_signed_at))]
+#[tactic(auto, unfolding(crate::specs::Bodies::small_signed_at, crate::specs::Fronts::signed_at))]
 fn small_signed_at(text: &str) -> Option<(LineBody<'_>, &str)>
     ensures { option_map (λ p. (body_of p.0, p.1.now)) result ≡ small_signed_at text.now }
 {
-    match i64_at(text) {
-        Some((n, rest)) => Some((LineBody::Scalar(ScalarValue::I64(n)), rest)),
+    let (digits, rest) = word(text);
+    match signed(digits) {
+        Some(n) => Some((LineBody::Scalar(ScalarValue::I64(n)), rest)),
         None => None,
     }
 }
 
 /// A number of 128 bits, and what stands behind it.
-#[tactic(auto, unfolding(crate::specs::Bodies::large_at))]
+#[tactic(auto, unfolding(crate::specs::Bodies::large_at, crate::specs::Fronts::number_at))]
 fn large_at(text: &str) -> Option<(LineBody<'_>, &str)>
     ensures { option_map (λ p. (body_of p.0, p.1.now)) result ≡ large_at text.now }
 {
-    match u128_at(text) {
-        Some((n, rest)) => Some((LineBody::Scalar(ScalarValue::U128(n)), rest)),
+    let (digits, rest) = word(text);
+    match wide_number(digits) {
+        Some(n) => Some((LineBody::Scalar(ScalarValue::U128(n)), rest)),
         None => None,
     }
 }
 
 /// A number of 128 bits with a sign, and what stands behind it.
-#[tactic(auto, unfolding(crate::specs::Bodies::large_signed_at))]
+#[tactic(auto, unfolding(crate::specs::Bodies::large_signed_at, crate::specs::Fronts::signed_at))]
 fn large_signed_at(text: &str) -> Option<(LineBody<'_>, &str)>
     ensures { option_map (λ p. (body_of p.0, p.1.now)) result ≡ large_signed_at text.now }
 {
-    match i128_at(text) {
-        Some((n, rest)) => Some((LineBody::Scalar(ScalarValue::I128(n)), rest)),
+    let (digits, rest) = word(text);
+    match wide_signed(digits) {
+        Some(n) => Some((LineBody::Scalar(ScalarValue::I128(n)), rest)),
         None => None,
     }
 }
 
-/// The body of a line, and what stands behind it.
-#[tactic(auto, unfolding(crate::specs::Bodies::body_at))]
-pub fn body_at<'de>(
+/// The tag of a variant or a number, and what stands behind it.
+fn plain_at(text: &str) -> Option<(LineBody<'_>, &str)>
+    ensures { option_map (λ p. (body_of p.0, p.1.now)) result ≡ body_in plain_rows text.now }
+{
+    if let Some(rest) = after(text, "v \"") {
+        return variant_at(rest);
+    }
+    if let Some(rest) = after(text, "u ") {
+        return small_at(rest);
+    }
+    if let Some(rest) = after(text, "i ") {
+        return small_signed_at(rest);
+    }
+    if let Some(rest) = after(text, "U ") {
+        return large_at(rest);
+    }
+    if let Some(rest) = after(text, "I ") {
+        return large_signed_at(rest);
+    }
+    None
+}
+
+/// A body that is a word and its content, and what stands behind it.
+fn content_at<'de>(
     alloc: Global,
     text: &'de str,
 ) -> Result<Option<(LineBody<'de>, &'de str)>, OutOfMemory>
-    ensures { IfOk result (λ found. option_map (λ p. (body_of p.0, p.1.now)) found ≡ body_at text.now) }
+    ensures { IfOk result (λ found. option_map (λ p. (body_of p.0, p.1.now)) found ≡ body_in rows text.now) }
 {
-    if let Some(found) = bare_at(text) {
-        return Ok(Some(found));
-    }
     if let Some(rest) = after(text, "k ") {
         return key_at(alloc, rest);
     }
@@ -215,20 +245,19 @@ pub fn body_at<'de>(
     if let Some(rest) = after(text, "b ") {
         return hex_at(alloc, rest);
     }
-    if let Some(rest) = after(text, "v \"") {
-        return Ok(variant_at(rest));
+    Ok(plain_at(text))
+}
+
+/// The body of a line, and what stands behind it.
+#[tactic(auto, unfolding(crate::specs::Bodies::body_at))]
+pub fn body_at<'de>(
+    alloc: Global,
+    text: &'de str,
+) -> Result<Option<(LineBody<'de>, &'de str)>, OutOfMemory>
+    ensures { IfOk result (λ found. option_map (λ p. (body_of p.0, p.1.now)) found ≡ body_at text.now) }
+{
+    match bare_at(text) {
+        Some(found) => Ok(Some(found)),
+        None => content_at(alloc, text),
     }
-    if let Some(rest) = after(text, "u ") {
-        return Ok(small_at(rest));
-    }
-    if let Some(rest) = after(text, "i ") {
-        return Ok(small_signed_at(rest));
-    }
-    if let Some(rest) = after(text, "U ") {
-        return Ok(large_at(rest));
-    }
-    if let Some(rest) = after(text, "I ") {
-        return Ok(large_signed_at(rest));
-    }
-    Ok(None)
 }

@@ -1,5 +1,5 @@
 //! Reading a line: its event.
-ghost use Rattle.std.specs.Prelude.{◌≡◌, IfOk};
+ghost use Rattle.std.specs.Prelude.{◌≡◌, Some, IfOk};
 ghost use Rattle.std.specs.Option.{option_map};
 ghost use Rattle.event_core.specs.Events.{event_of as view_of};
 ghost use Rattle.event_core.specs.Keys.{full_key, key_of};
@@ -7,7 +7,7 @@ ghost use Rattle.event_core.specs.Metadata.{span_view, metadata_of, note_view};
 ghost use Rattle.semantics.specs.Events.{Note};
 ghost use Rattle.shape_core.specs.Texts.{phrase_of};
 ghost use Rattle.tape_text.specs.Bodies.{takes_metadata};
-ghost use Rattle.tape_text.specs.Reading.{told, noted, key_with, event_from, event_with, event_of};
+ghost use Rattle.tape_text.specs.Reading.{told, noted, key_with, event_from, event_with, completed, event_of};
 ghost use Rattle.tape_text.specs.Views.{body_of};
 
 use crate::body::{LineBody, body_at};
@@ -36,7 +36,12 @@ fn takes_metadata(body: &LineBody<'_>) -> bool
 fn told(meta: ValueMeta<'_>) -> Option<ValueMeta<'_>>
     ensures { option_map metadata_of result ≡ told (metadata_of meta.entry) }
 {
-    if meta.is_empty() { None } else { Some(meta) }
+    if meta.is_empty() {
+        drop(meta);
+        None
+    } else {
+        Some(meta)
+    }
 }
 
 /// An event with its metadata, where they tell something.
@@ -67,6 +72,22 @@ fn full_key<'de>(
     Ok(FieldKey::Full(Boxed::new(alloc, full)?))
 }
 
+/// A key with a name, which is the name alone where nothing is told beside it.
+fn named<'de>(
+    alloc: Global,
+    name: Text<'de>,
+    meta: ValueMeta<'de>,
+) -> Result<FieldKey<'de>, OutOfMemory>
+    ensures { IfOk result (λ key. (n : Note) → key_of key n ≡ key_with (Some (phrase_of name.entry)) (metadata_of meta.entry) n) }
+{
+    if meta.is_empty() {
+        drop(meta);
+        Ok(FieldKey::Name(name))
+    } else {
+        full_key(alloc, Some(name), meta)
+    }
+}
+
 /// A key, which is a name alone where it has one and nothing is told beside it.
 fn keyed<'de>(
     alloc: Global,
@@ -77,13 +98,7 @@ fn keyed<'de>(
 {
     match name {
         None => full_key(alloc, None, meta),
-        Some(name) => {
-            if meta.is_empty() {
-                Ok(FieldKey::Name(name))
-            } else {
-                full_key(alloc, Some(name), meta)
-            }
-        }
+        Some(name) => named(alloc, name, meta),
     }
 }
 
@@ -127,11 +142,35 @@ fn event_with<'de>(
     ensures { IfOk result (λ found. option_map view_of found ≡ event_with (body_of body.entry) (span_view span) (metadata_of meta.entry)) }
 {
     if !takes_metadata(&body) && !meta.is_empty() {
+        drop(body);
+        drop(meta);
         return Ok(None);
     }
     match event_from(alloc, body, meta, span) {
         Ok(event) => Ok(Some(event)),
         Err(refused) => Err(refused),
+    }
+}
+
+/// The event of a body and of the text behind it. None where no metadata are spelled so, or may stand there.
+fn completed<'de>(
+    alloc: Global,
+    body: LineBody<'de>,
+    rest: &'de str,
+    span: Span,
+) -> Result<Option<ParseEvent<'de>>, OutOfMemory>
+    ensures { IfOk result (λ found. option_map view_of found ≡ completed (span_view span) (body_of body.entry, rest.now)) }
+{
+    match metadata_at(alloc, rest) {
+        Ok(Some(meta)) => event_with(alloc, body, meta, span),
+        Ok(None) => {
+            drop(body);
+            Ok(None)
+        }
+        Err(refused) => {
+            drop(body);
+            Err(refused)
+        }
     }
 }
 
@@ -147,11 +186,7 @@ pub fn event_of<'de>(
     ensures { IfOk result (λ found. option_map view_of found ≡ event_of (span_view span) line.now) }
 {
     match body_at(alloc, line) {
-        Ok(Some((body, rest))) => match metadata_at(alloc, rest) {
-            Ok(Some(meta)) => event_with(alloc, body, meta, span),
-            Ok(None) => Ok(None),
-            Err(refused) => Err(refused),
-        },
+        Ok(Some((body, rest))) => completed(alloc, body, rest, span),
         Ok(None) => Ok(None),
         Err(refused) => Err(refused),
     }

@@ -1,7 +1,7 @@
 //! Reading a front of a line: a word, a number, bytes.
 ghost use Rattle.std.specs.Prelude.{◌≡◌, None, IfOk};
-ghost use Rattle.std.specs.Option.{option_copied, option_map};
-ghost use Rattle.tape_text.specs.Fronts.{strip, until_space, digit, unhexed, bytes_at};
+ghost use Rattle.std.specs.Option.{option_copied};
+ghost use Rattle.tape_text.specs.Fronts.{strip, until_space, digit, unhexed};
 
 use shape_core::{Items, OutOfMemory};
 use std::alloc::Global;
@@ -36,7 +36,7 @@ fn digit(c: u8) -> Option<u8>
 }
 
 /// The bytes whose pairs of hexadecimal digits these are.
-fn unhexed(alloc: Global, digits: &[u8]) -> Result<Option<Items<u8>>, OutOfMemory>
+pub fn unhexed(alloc: Global, digits: &[u8]) -> Result<Option<Items<u8>>, OutOfMemory>
     ensures { IfOk result (λ found. found ≡ unhexed None digits.now) }
 {
     let mut bytes = Items::new(alloc);
@@ -56,18 +56,5 @@ fn unhexed(alloc: Global, digits: &[u8]) -> Result<Option<Items<u8>>, OutOfMemor
     match high {
         None => Ok(Some(bytes)),
         Some(_) => Ok(None),
-    }
-}
-
-/// Bytes up to the end of the word, and what stands behind them.
-#[tactic(auto, unfolding(crate::specs::Fronts::bytes_at))]
-pub fn bytes_at(alloc: Global, text: &str) -> Result<Option<(Items<u8>, &str)>, OutOfMemory>
-    ensures { IfOk result (λ found. option_map (λ p. (p.0, p.1.now)) found ≡ bytes_at text.now) }
-{
-    let (digits, rest) = word(text);
-    match unhexed(alloc, digits.as_bytes()) {
-        Ok(Some(bytes)) => Ok(Some((bytes, rest))),
-        Ok(None) => Ok(None),
-        Err(refused) => Err(refused),
     }
 }

@@ -1,9 +1,8 @@
 //! Reading a number: a decimal without leading zeros, in the range of its type.
 ghost use Rattle.std.specs.Prelude.{◌≡◌};
-ghost use Rattle.std.specs.Option.{option_map};
-ghost use Rattle.tape_text.specs.Fronts.{is_padded, number_of, number_at, negative, positive, signed_of, signed_at};
+ghost use Rattle.tape_text.specs.Fronts.{is_padded, number_of, negative, positive, signed_of};
 
-use crate::front::{after, word};
+use crate::front::after;
 
 /// A sign or a leading zero stands in front.
 fn is_padded(text: &[u8]) -> bool
@@ -16,7 +15,7 @@ fn is_padded(text: &[u8]) -> bool
 }
 
 /// The number of 64 bits whose decimal this is.
-fn number(text: &str) -> Option<u64>
+pub fn number(text: &str) -> Option<u64>
     ensures { result ≡ number_of 64 text.now }
 {
     if is_padded(text.as_bytes()) {
@@ -26,7 +25,7 @@ fn number(text: &str) -> Option<u64>
 }
 
 /// The number of 128 bits whose decimal this is.
-fn wide_number(text: &str) -> Option<u128>
+pub fn wide_number(text: &str) -> Option<u128>
     ensures { result ≡ number_of 128 text.now }
 {
     if is_padded(text.as_bytes()) {
@@ -79,7 +78,7 @@ fn wide_positive(n: u128) -> Option<i128>
 
 /// The number of 64 bits with a sign whose decimal this is.
 #[tactic(auto, unfolding(crate::specs::Fronts::signed_of))]
-fn signed(text: &str) -> Option<i64>
+pub fn signed(text: &str) -> Option<i64>
     ensures { result ≡ signed_of 63 64 text.now }
 {
     match after(text, "-") {
@@ -90,59 +89,11 @@ fn signed(text: &str) -> Option<i64>
 
 /// The number of 128 bits with a sign whose decimal this is.
 #[tactic(auto, unfolding(crate::specs::Fronts::signed_of))]
-fn wide_signed(text: &str) -> Option<i128>
+pub fn wide_signed(text: &str) -> Option<i128>
     ensures { result ≡ signed_of 127 128 text.now }
 {
     match after(text, "-") {
         Some(digits) => wide_negative(wide_number(digits)?),
         None => wide_positive(wide_number(text)?),
-    }
-}
-
-/// A number up to the end of the word, and what stands behind it.
-#[tactic(auto, unfolding(crate::specs::Fronts::number_at))]
-pub fn u64_at(text: &str) -> Option<(u64, &str)>
-    ensures { option_map (λ found. (found.0, found.1.now)) result ≡ number_at 64 text.now }
-{
-    let (digits, rest) = word(text);
-    match number(digits) {
-        Some(n) => Some((n, rest)),
-        None => None,
-    }
-}
-
-/// A number up to the end of the word, and what stands behind it.
-#[tactic(auto, unfolding(crate::specs::Fronts::number_at))]
-pub fn u128_at(text: &str) -> Option<(u128, &str)>
-    ensures { option_map (λ found. (found.0, found.1.now)) result ≡ number_at 128 text.now }
-{
-    let (digits, rest) = word(text);
-    match wide_number(digits) {
-        Some(n) => Some((n, rest)),
-        None => None,
-    }
-}
-
-/// A number up to the end of the word, and what stands behind it.
-#[tactic(auto, unfolding(crate::specs::Fronts::signed_at))]
-pub fn i64_at(text: &str) -> Option<(i64, &str)>
-    ensures { option_map (λ found. (found.0, found.1.now)) result ≡ signed_at 63 64 text.now }
-{
-    let (digits, rest) = word(text);
-    match signed(digits) {
-        Some(n) => Some((n, rest)),
-        None => None,
-    }
-}
-
-/// A number up to the end of the word, and what stands behind it.
-#[tactic(auto, unfolding(crate::specs::Fronts::signed_at))]
-pub fn i128_at(text: &str) -> Option<(i128, &str)>
-    ensures { option_map (λ found. (found.0, found.1.now)) result ≡ signed_at 127 128 text.now }
-{
-    let (digits, rest) = word(text);
-    match wide_signed(digits) {
-        Some(n) => Some((n, rest)),
-        None => None,
     }
 }

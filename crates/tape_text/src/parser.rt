@@ -1,11 +1,12 @@
 //! The parser of a tape.
-ghost use Rattle.std.specs.Prelude.{◌≡◌, ◌⊎◌, [], None, IfOk, IfErr, OnErr};
+ghost use Rattle.std.specs.Prelude.{◌≡◌, ◌⊎◌, ◌++◌, ◌∷◌, [], None, IfOk, IfErr, OnErr, MatchResult};
 ghost use Rattle.format_traits.specs.Parsing.{Failed, Met, IsMemory, HasCause};
 ghost use Rattle.tape_text.specs.Parser.{parsing_of, LooksAt, PutNext};
 
 use crate::line::{Stop, event_at};
 use event_core::{DeserializeErrorKind, ParseError, ParseEvent, Span};
 use format_traits::FormatParser;
+use shape_core::OutOfMemory;
 use std::alloc::Global;
 use std::collections::VecDeque;
 use std::marker::Model;
@@ -70,7 +71,7 @@ impl<'de> TapeParser<'de> {
     {
         match self.look() {
             Ok(Some((event, next))) => {
-                if buf.push_back(event).is_err() {
+                if put(buf, event).is_err() {
                     return Err(no_memory(self.at, "buffer of events"));
                 }
                 self.at = next;
@@ -78,6 +79,19 @@ impl<'de> TapeParser<'de> {
             }
             Ok(None) => Ok(false),
             Err(error) => Err(error),
+        }
+    }
+}
+
+/// Puts an event behind those of the buffer. It is let go where no memory is there for it.
+fn put<'de>(buf: &mut VecDeque<ParseEvent<'de>>, event: ParseEvent<'de>) -> Result<(), OutOfMemory>
+    ensures { MatchResult result (λ _. buf.new.items ≡ buf.old.items ++ (event.entry ∷ [])) (λ _. buf.new.items ≡ buf.old.items) }
+{
+    match buf.push_back(event) {
+        Ok(()) => Ok(()),
+        Err(back) => {
+            drop(back);
+            Err(OutOfMemory)
         }
     }
 }

@@ -118,10 +118,14 @@ pub fn char_at(alloc: Global, text: &str) -> Result<Option<(char, &str)>, OutOfM
     ensures { IfOk result (λ found. option_map (λ p. (p.0, p.1.now)) found ≡ char_at text.now) }
 {
     match text_at(alloc, text) {
-        Ok(Some((inner, rest))) => match single(inner.as_str()) {
-            Some(c) => Ok(Some((c, rest))),
-            None => Ok(None),
-        },
+        Ok(Some((inner, rest))) => {
+            let letter = single(inner.as_str());
+            drop(inner);
+            match letter {
+                Some(c) => Ok(Some((c, rest))),
+                None => Ok(None),
+            }
+        }
         Ok(None) => Ok(None),
         Err(refused) => Err(refused),
     }

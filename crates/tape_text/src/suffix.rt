@@ -3,7 +3,7 @@ ghost use Rattle.std.specs.Prelude.{◌≡◌, IfOk, length, map};
 ghost use Rattle.std.specs.Option.{option_map};
 ghost use Rattle.shape_core.specs.Texts.{phrase_of};
 ghost use Rattle.event_core.specs.Metadata.{metadata_of};
-ghost use Rattle.tape_text.specs.Suffixes.{tag_at, doc_at, docs_at, metadata_at};
+ghost use Rattle.tape_text.specs.Suffixes.{tag_at, doc_at, docs_at, with_docs, metadata_at};
 
 use crate::front::after;
 use crate::quoted::text_at;
@@ -59,6 +59,30 @@ fn docs_at<'de>(alloc: Global, text: &'de str) -> Result<Option<Docs<'de>>, OutO
     Ok(Some(docs))
 }
 
+/// The metadata of a tag, where there is one, and of the lines of documentation that the text is.
+fn with_docs<'de>(
+    alloc: Global,
+    tag: Option<Text<'de>>,
+    text: &'de str,
+) -> Result<Option<ValueMeta<'de>>, OutOfMemory>
+    ensures { IfOk result (λ found. option_map metadata_of found ≡ with_docs (option_map phrase_of tag.entry, text.now)) }
+{
+    match docs_at(alloc, text) {
+        Ok(Some(docs)) => {
+            let meta = ValueMeta::builder().maybe_tag(tag).doc(docs).build();
+            Ok(Some(meta))
+        }
+        Ok(None) => {
+            drop(tag);
+            Ok(None)
+        }
+        Err(refused) => {
+            drop(tag);
+            Err(refused)
+        }
+    }
+}
+
 /// What the text tells beside an event: nothing where it is empty.
 #[tactic(auto, unfolding(crate::specs::Suffixes::metadata_at))]
 pub fn metadata_at<'de>(
@@ -68,14 +92,7 @@ pub fn metadata_at<'de>(
     ensures { IfOk result (λ found. option_map metadata_of found ≡ metadata_at text.now) }
 {
     match tag_at(alloc, text) {
-        Ok(Some((tag, rest))) => match docs_at(alloc, rest) {
-            Ok(Some(docs)) => {
-                let meta = ValueMeta::builder().maybe_tag(tag).doc(docs).build();
-                Ok(Some(meta))
-            }
-            Ok(None) => Ok(None),
-            Err(refused) => Err(refused),
-        },
+        Ok(Some((tag, rest))) => with_docs(alloc, tag, rest),
         Ok(None) => Ok(None),
         Err(refused) => Err(refused),
     }

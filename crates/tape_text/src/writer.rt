@@ -2,7 +2,10 @@
 ghost use Rattle.std.specs.Prelude.{◌≡◌, ◌++◌, [], true, nat_lt, codes, encode_utf8};
 ghost use Rattle.std.specs.List.{list_all};
 ghost use Rattle.semantics.specs.Lines.{quoted, hex};
+ghost use Rattle.semantics.specs.Calls.{write_scalar, literal_of};
 ghost use Rattle.semantics.specs.Tapes.{calls_tape};
+ghost use Rattle.event_core.specs.Events.{scalar_of};
+ghost use Rattle.format_traits.specs.Writing.{Answers};
 ghost use Rattle.tape_text.specs.Joining.{tape_starts, tape_joins};
 ghost use Rattle.tape_text.specs.Writer.{Writes, body_text, plain_writing};
 
@@ -87,6 +90,24 @@ impl TapeWriter {
     {
         self.add(Body::Hex(items))
     }
+
+    fn add_scalar(&mut self, scalar: &ScalarValue<'_>) -> Result<(), WriteStop<NoFault>>
+        ensures { Answers (λ calls. self.new ≡ self.old ++ calls_tape calls) plain_writing plain_writing (write_scalar (literal_of (scalar_of scalar.now))) result }
+    {
+        match scalar {
+            ScalarValue::Unit => self.add(Body::Word("unit")),
+            ScalarValue::Null => self.add(Body::Word("null")),
+            ScalarValue::Bool(true) => self.add(Body::Word("true")),
+            ScalarValue::Bool(false) => self.add(Body::Word("false")),
+            ScalarValue::Char(c) => self.add_char(*c),
+            ScalarValue::I64(n) => self.add_number("i ", *n),
+            ScalarValue::U64(n) => self.add_number("u ", *n),
+            ScalarValue::I128(n) => self.add_number("I ", *n),
+            ScalarValue::U128(n) => self.add_number("U ", *n),
+            ScalarValue::Str(text) => self.add(Body::Text("s ", text.as_str())),
+            ScalarValue::Bytes(bytes) => self.add_bytes(bytes.as_slice()),
+        }
+    }
 }
 
 impl FormatSerializer for TapeWriter {
@@ -117,19 +138,9 @@ impl FormatSerializer for TapeWriter {
     }
 
     fn scalar(&mut self, scalar: ScalarValue<'_>) -> Result<(), WriteStop<NoFault>> {
-        match scalar {
-            ScalarValue::Unit => self.add(Body::Word("unit")),
-            ScalarValue::Null => self.add(Body::Word("null")),
-            ScalarValue::Bool(true) => self.add(Body::Word("true")),
-            ScalarValue::Bool(false) => self.add(Body::Word("false")),
-            ScalarValue::Char(c) => self.add_char(c),
-            ScalarValue::I64(n) => self.add_number("i ", n),
-            ScalarValue::U64(n) => self.add_number("u ", n),
-            ScalarValue::I128(n) => self.add_number("I ", n),
-            ScalarValue::U128(n) => self.add_number("U ", n),
-            ScalarValue::Str(text) => self.add(Body::Text("s ", text.as_str())),
-            ScalarValue::Bytes(bytes) => self.add_bytes(bytes.as_slice()),
-        }
+        let added = self.add_scalar(&scalar);
+        drop(scalar);
+        added
     }
 
     ghost starts = { λ a. tape_starts a };
