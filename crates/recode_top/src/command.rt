@@ -16,7 +16,7 @@ const DEPTH: usize = 128;
 const DEPTH_LIMIT: u128 = 4_096;
 
 /// What the words ask for.
-#[derive(Clone, Copy, Debug, PartialEq)]
+#[derive(Clone, Copy)]
 pub struct Request<'w> {
     /// The name of the root's shape.
     pub root: &'w str,
@@ -81,64 +81,5 @@ fn depth_of(word: &str) -> Option<usize>
         Some(n as usize)
     } else {
         None
-    }
-}
-
-#[cfg(test)]
-mod tests {
-    use super::*;
-    use std::test::*;
-
-    /// The request of these words.
-    fn asked_by<'w>(words: &'w mut Words, list: &[&str]) -> Result<Option<Request<'w>>, Fail> {
-        for word in list {
-            words.push(word)?;
-        }
-        Ok(asked(words))
-    }
-
-    #[test]
-    fn two_or_four_words_make_a_request(rt: HostRuntime) -> Result<(), Fail> {
-        for (list, capacity, depth) in [
-            (["recode", "Point"].as_slice(), 512, 128),
-            (&["recode", "Point", "0", "0"], 0, 0),
-            (&["recode", "Point", "1", "4096"], 1, 4096),
-            (
-                &["recode", "Point", "18446744073709551615", "10"],
-                18_446_744_073_709_551_615,
-                10,
-            ),
-        ] {
-            let mut words = Words::new(rt.alloc());
-            let want = Request {
-                root: "Point",
-                capacity,
-                depth,
-            };
-            assert_eq!(rt; asked_by(&mut words, list)?, Some(want));
-        }
-        Ok(())
-    }
-
-    #[test]
-    fn other_words_make_none(rt: HostRuntime) -> Result<(), Fail> {
-        for list in [
-            [].as_slice(),
-            &["recode"],
-            &["record", "Point"],
-            &["recode", "Point", "512"],
-            &["recode", "Point", "512", "128", "1"],
-            &["recode", "Point", "", "128"],
-            &["recode", "Point", "0512", "128"],
-            &["recode", "Point", "+512", "128"],
-            &["recode", "Point", "512", " 128"],
-            &["recode", "Point", "18446744073709551616", "128"],
-            &["recode", "Point", "512", "4097"],
-            &["recode", "Point", "512", "-1"],
-        ] {
-            let mut words = Words::new(rt.alloc());
-            assert_eq!(rt; asked_by(&mut words, list)?, None);
-        }
-        Ok(())
     }
 }

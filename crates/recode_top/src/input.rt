@@ -27,20 +27,3 @@ pub fn read_input<S: Source>(alloc: Global, source: &mut S) -> Result<Vec<u8>, S
         Err(ReadStop::Memory) => Err(Stop::Memory),
     }
 }
-
-#[cfg(test)]
-mod tests {
-    use super::*;
-    use crate::outside::MemorySource;
-    use shape_core::Items;
-    use std::test::*;
-
-    #[test]
-    fn the_input_is_read_whole(rt: HostRuntime) -> Result<(), Fail> {
-        let bytes = Items::from_slice(rt.alloc(), b"---\n")?;
-        let mut source = MemorySource::new(bytes, Items::new(rt.alloc()));
-        let input = read_input(rt.alloc(), &mut source);
-        assert!(rt; input.is_ok_and(|bytes| bytes.as_slice() == b"---\n".as_slice()));
-        Ok(())
-    }
-}

@@ -17,7 +17,8 @@ mod writing;
 
 pub use error::RecodeError;
 pub use outside::{
-    Failed, MemorySink, MemorySource, Sink, Source, StreamSink, StreamSource, Words,
+    Failed, MemorySink, MemorySource, ReadStop, Sink, Source, StreamSink, StreamSource, Words,
+    read_all, write_all,
 };
 pub use program::{out_of_memory, run};
 pub use recoding::recode;

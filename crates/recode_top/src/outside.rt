@@ -9,8 +9,6 @@ mod memory_source;
 mod sink;
 mod source;
 mod streams;
-#[cfg(test)]
-mod tests;
 mod words;
 
 pub use divide::divided;

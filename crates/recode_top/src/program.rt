@@ -14,9 +14,6 @@ use crate::outside::{Failed, Sink, Source, Words, write_all};
 use crate::stop::Stop;
 use std::alloc::Global;
 
-#[cfg(test)]
-mod tests;
-
 /// Runs the program with these words: `recode ROOT`, or `recode ROOT CAPACITY DEPTH`.
 ///
 /// At most CAPACITY events are read ahead, which is 512 where the words don't say, and values nest at most DEPTH deep,

@@ -73,6 +73,7 @@ fn refused<'e>(error: DeserializeError<'e>) -> RecodeError<'e>
     ensures { RefusesAs error.entry result }
 {
     if is_memory(&error.kind) {
+        drop(error);
         return RecodeError::Alloc;
     }
     RecodeError::Deserialize(error)

@@ -18,9 +18,6 @@ use shape_core::{ShapeId, Shapes, Value};
 use std::alloc::Global;
 use tape_text::{TapeBytes, tape_is_read};
 
-#[cfg(test)]
-mod tests;
-
 /// Reads the one value of a tape by its shape, its keys in any order, and writes its tape in canonical order.
 ///
 /// `depth` bounds how deep values nest, and at most `capacity` events are read ahead: at 0 none is read. An `Ok` says

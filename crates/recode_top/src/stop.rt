@@ -7,7 +7,7 @@ use crate::outside::{Failed, Sink, write_all};
 use shape_core::Name;
 
 /// Why the program stops before it is done.
-#[derive(Debug, Drop)]
+#[derive(Drop)]
 pub enum Stop<'a> {
     /// The words of the command line have no known form.
     Usage,
@@ -86,35 +86,4 @@ fn write_line<N: Sink>(notes: &mut N, front: &str, text: &str) -> Result<(), Fai
     write_all(notes, front.as_bytes())?;
     write_all(notes, text.as_bytes())?;
     write_all(notes, b"\n")
-}
-
-#[cfg(test)]
-mod tests {
-    use super::*;
-    use crate::outside::MemorySink;
-    use shape_core::Items;
-    use std::test::*;
-
-    #[test]
-    fn each_stop_has_a_status_and_a_line(rt: HostRuntime) -> Result<(), Fail> {
-        let shapes = Name::copy(rt.alloc(), "3: BadLine")?;
-        let refused = Name::copy(rt.alloc(), "out of range [0..1)")?;
-        for (stop, status, line) in [
-            (Stop::Refused(refused), 1, "error: out of range [0..1)\n"),
-            (Stop::Usage, 2, "usage: recode ROOT [CAPACITY DEPTH]\n"),
-            (Stop::NoDivider, 3, "error: no --- line\n"),
-            (Stop::Shapes(shapes), 3, "error: shapes line 3: BadLine\n"),
-            (Stop::UnknownRoot("Line"), 3, "error: unknown root Line\n"),
-            (Stop::ReadFault, 4, "error: read fault\n"),
-            (Stop::WriteFault, 5, "error: write fault\n"),
-            (Stop::Memory, 6, "error: out of memory\n"),
-            (Stop::TooLong, 7, "error: input too long\n"),
-        ] {
-            let mut notes = MemorySink::new(rt.alloc(), 64, Items::new(rt.alloc()))?;
-            stop.note(&mut notes);
-            assert_eq!(rt; notes.as_slice(), line.as_bytes());
-            assert_eq!(rt; stop.status(), status);
-        }
-        Ok(())
-    }
 }
