@@ -1,0 +1,43 @@
+//! What a byte says.
+ghost use Rattle.std.specs.Prelude.{◌≡◌, ◌<◌, ◌∷◌, [], length, slice_index, option_map};
+ghost use Rattle.semantics.specs.Events.{Note};
+ghost use Rattle.event_core.specs.Events.{event_from};
+ghost use Rattle.terse_text.specs.Terse.{event_at};
+
+use event_core::{ContainerKind, FieldKey, ParseEventKind, ScalarValue};
+use shape_core::Text;
+
+/// What the first byte says. None where no event has it.
+#[tactic(auto, unfolding(crate::specs::Terse::event_at))]
+pub fn first_kind<'de>(rest: &'de [u8]) -> Option<ParseEventKind<'de>>
+    requires { 0 < length rest.now }
+    ensures { (n : Note) → option_map (λ kind. event_from kind n) result ≡ event_at (slice_index rest.now 0) n }
+{
+    let byte = rest[0];
+    match byte {
+        b'[' => Some(ParseEventKind::SequenceStart(ContainerKind::Array)),
+        b']' => Some(ParseEventKind::SequenceEnd),
+        b'{' => Some(ParseEventKind::StructStart(ContainerKind::Object)),
+        b'}' => Some(ParseEventKind::StructEnd),
+        b'-' => Some(ParseEventKind::Scalar(ScalarValue::Null)),
+        b'0'..=b'9' => {
+            let digit = u64::from(byte - b'0');
+            Some(ParseEventKind::Scalar(ScalarValue::U64(digit)))
+        }
+        b'a'..=b'z' => {
+            let key = Text::Borrowed(first_letter(rest));
+            Some(ParseEventKind::FieldKey(FieldKey::Name(key)))
+        }
+        _ => None,
+    }
+}
+
+/// The first letter, as a text.
+#[tactic(auto, using(crate::proofs::Letters::one_letter, crate::proofs::Letters::letter_is_utf8))]
+fn first_letter(rest: &[u8]) -> &str
+    requires some { 0 < length rest.now }
+    requires letter { slice_index rest.now 0 < 128 }
+    ensures { result.now ≡ slice_index rest.now 0 ∷ [] }
+{
+    str::from_utf8(rest.split_at(1).0).unwrap()
+}
