@@ -1,5 +1,5 @@
 -- Calls of the parser, each by what stood in front of it.
-use Rattle.std.proofs.Common.{ℕ, ◌+◌, ◌<◌, ◌≤◌, ◌≡◌, ◌⊎◌, List, [], ◌∷◌, ◌++◌, true, false, Some, None, Ok, Err, inl, inr, length, drop, refl, ap, arith}
+use Rattle.std.proofs.Common.{ℕ, ◌+◌, ◌<◌, ◌≤◌, ◌≡◌, ◌⊎◌, List, [], ◌∷◌, ◌++◌, true, false, Some, None, Ok, Err, inr, length, drop, refl, ap, arith}
 use Rattle.semantics.specs.Faults.{Coming}
 use Rattle.event_core.specs.Events.{event_of}
 use Rattle.event_core.specs.declared.event.ParseEvent.{ParseEvent}

@@ -1,5 +1,5 @@
 -- Terse texts: what each byte says, and what comes of a text.
-use Rattle.std.specs.Prelude.{ℕ, ◌-◌, ◌+◌, ◌==◌, ◌&&◌, ◌≡◌, ◌≤◌, nat_le, cond, true, List, [], ◌∷◌, length, drop, Option, Some, None, Result, Ok, Err}
+use Rattle.std.specs.Prelude.{ℕ, ◌-◌, ◌==◌, ◌&&◌, ◌≡◌, ◌≤◌, nat_le, cond, true, List, [], ◌∷◌, length, drop, Option, Some, None, Result, Ok, Err}
 use Rattle.semantics.specs.Events.{Event, Note, leaf, start, stop, key, named, scalar, u64, null, of_struct, of_sequence, object_kind, array_kind}
 use Rattle.semantics.specs.Faults.{Coming, Ending, ends, stops, unexpected_char}
 use Rattle.event_core.specs.Events.{event_of}
