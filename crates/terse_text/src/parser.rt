@@ -76,16 +76,15 @@ impl<'de> TerseParser<'de> {
         ensures fault { IfErr result (λ e. IsMemory e ⊎ Met [] e (parsing_of self.old) (parsing_of self.new)) }
         ensures cause { HasCause self.old.faults self.new.faults result }
     {
-        match self.look() {
-            Ok(Some(event)) => {
+        match self.look()? {
+            Some(event) => {
                 if buf.push_back(event).is_err() {
                     return Err(no_memory());
                 }
                 self.rest = self.rest.split_at(1).1;
                 Ok(true)
             }
-            Ok(None) => Ok(false),
-            Err(error) => Err(error),
+            None => Ok(false),
         }
     }
 }
@@ -119,13 +118,12 @@ impl<'de> FormatParser<'de> for TerseParser<'de> {
 
     #[tactic(auto, using(crate::proofs::Taking::takes, crate::proofs::Taking::keeps, crate::proofs::Taking::fails, crate::proofs::Taking::ended, crate::proofs::Taking::meets))]
     fn next_event(&mut self) -> Result<Option<ParseEvent<'de>>, ParseError<'de>> {
-        match self.look() {
-            Ok(Some(event)) => {
+        match self.look()? {
+            Some(event) => {
                 self.rest = self.rest.split_at(1).1;
                 Ok(Some(event))
             }
-            Ok(None) => Ok(None),
-            Err(error) => Err(error),
+            None => Ok(None),
         }
     }
 
