@@ -50,6 +50,17 @@ impl Recorder {
         }
         Ok(())
     }
+
+    fn add_scalar(&mut self, scalar: &ScalarValue<'_>) -> Result<(), WriteStop<Broken>>
+        ensures taken { OnOk result (self.new.faults ≡ self.old.faults) }
+        ensures refused { IfErr result (λ stop. (self.old.faults ≤ self.new.faults) × Stops (record { settings = default_settings; faults = self.old.faults }) (record { settings = default_settings; faults = self.new.faults }) stop) }
+    {
+        self.spend()?;
+        if shown(&mut self.calls, scalar).is_err() {
+            return Err(WriteStop::Alloc);
+        }
+        Ok(())
+    }
 }
 
 /// Adds a word.
@@ -98,11 +109,9 @@ impl FormatSerializer for Recorder {
     }
 
     fn scalar(&mut self, scalar: ScalarValue<'_>) -> Result<(), WriteStop<Broken>> {
-        self.spend()?;
-        if shown(&mut self.calls, &scalar).is_err() {
-            return Err(WriteStop::Alloc);
-        }
-        Ok(())
+        let answer = self.add_scalar(&scalar);
+        drop(scalar);
+        answer
     }
 
     ghost starts = { λ a. tt };
