@@ -22,8 +22,8 @@ pub struct Given {
     pub failing_reads: Items<usize>,
     /// The numbers, from 0, of the sink's calls that fail.
     pub failing_writes: Items<usize>,
-    /// How many bytes the sink takes.
-    pub room: usize,
+    /// How many bytes the sink takes, where the file says so.
+    pub room: Option<usize>,
 }
 
 /// What a case is called.

@@ -6,7 +6,7 @@ use crate::fault::{CaseFaultKind, ReadCasesError, fault};
 use crate::head::Head;
 use crate::line::lines_of;
 use crate::part::{Part, behind, parts_of};
-use crate::section::{Section, part_with};
+use crate::section::Section;
 use shape_core::Items;
 use std::alloc::Global;
 
@@ -23,19 +23,20 @@ pub fn read_cases<'a>(alloc: Global, file: &'a [u8]) -> Result<Items<Case<'a>>, 
 fn cases_of<'a>(alloc: Global, parts: &[Part<'_, 'a>]) -> Result<Items<Case<'a>>, ReadCasesError> {
     let mut cases = Items::new(alloc);
     let mut shapes = None;
-    let mut begun = false;
-    for (at, first) in parts.iter().enumerate() {
-        if !begun || first.head == Head::Case {
-            let others = others_behind(parts, at);
-            shapes = in_force(shapes, first, others);
-            let section = Section {
-                first,
-                others,
-                shapes,
-            };
-            add_section(alloc, section, &mut cases)?;
+    for (at, part) in parts.iter().enumerate() {
+        match part.head {
+            Head::Case => {
+                let others = others_behind(parts, at);
+                let section = Section {
+                    first: part,
+                    others,
+                    shapes: shapes_of(shapes, others),
+                };
+                add_case(alloc, section, &mut cases)?;
+            }
+            Head::Shapes => shapes = Some(part),
+            _ => belongs(part, cases.as_slice())?,
         }
-        begun = true;
     }
     Ok(cases)
 }
@@ -56,37 +57,37 @@ fn before_case(parts: &[Part<'_, '_>]) -> usize
     }
 }
 
-/// The shapes that are in force at a case: its own, or those before it.
-fn in_force<'p, 'l, 'a>(
+/// The shapes of a case: those that stand last before its tape.
+fn shapes_of<'p, 'l, 'a>(
     before: Option<&'p Part<'l, 'a>>,
-    first: &'p Part<'l, 'a>,
     others: &'p [Part<'l, 'a>],
 ) -> Option<&'p Part<'l, 'a>> {
-    if first.head == Head::Shapes {
-        return Some(first);
+    let mut shapes = before;
+    for part in others {
+        match part.head {
+            Head::Shapes => shapes = Some(part),
+            Head::Tape => return shapes,
+            _ => {}
+        }
     }
-    match part_with(others, Head::Shapes) {
-        Some(own) => Some(own),
-        None => before,
-    }
+    shapes
 }
 
-/// Adds a case. Before the first one shapes may stand.
-fn add_section<'a>(
+/// Adds a case.
+fn add_case<'a>(
     alloc: Global,
     section: Section<'_, '_, 'a>,
     cases: &mut Items<Case<'a>>,
 ) -> Result<(), ReadCasesError> {
-    match section.first.head {
-        Head::Case => {
-            let case = section.case(alloc)?;
-            cases.push(case)?;
-            Ok(())
-        }
-        Head::Shapes => match section.others.first() {
-            Some(part) => Err(fault(part.line, CaseFaultKind::Outside)),
-            None => Ok(()),
-        },
-        _ => Err(fault(section.first.line, CaseFaultKind::Outside)),
+    let case = section.case(alloc)?;
+    cases.push(case)?;
+    Ok(())
+}
+
+/// Sees that a case has begun before a part of one.
+fn belongs(part: &Part<'_, '_>, cases: &[Case<'_>]) -> Result<(), ReadCasesError> {
+    if cases.is_empty() {
+        return Err(fault(part.line, CaseFaultKind::Outside));
     }
+    Ok(())
 }

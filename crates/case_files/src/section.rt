@@ -8,9 +8,6 @@ use crate::part::{Part, behind};
 use shape_core::{Items, OutOfMemory};
 use std::alloc::Global;
 
-/// How many bytes a sink takes where the case doesn't say.
-const ROOM: usize = 1_048_576;
-
 /// A case: its first part, the others, and the shapes in force.
 #[derive(Clone, Copy)]
 pub(crate) struct Section<'p, 'l, 'a> {
@@ -155,11 +152,11 @@ impl<'p, 'l, 'a> Section<'p, 'l, 'a> {
         }
     }
 
-    /// How many bytes the sink takes.
-    fn room(&self) -> Result<usize, ReadCasesError> {
+    /// How many bytes the sink takes, where the case says so.
+    fn room(&self) -> Result<Option<usize>, ReadCasesError> {
         match self.part(Head::Room) {
-            Some(part) => self.number(Head::Room, part.text),
-            None => Ok(ROOM),
+            Some(part) => Ok(Some(self.number(Head::Room, part.text)?)),
+            None => Ok(None),
         }
     }
 
@@ -244,19 +241,24 @@ fn add_words<'a>(
 }
 
 /// The first part with this head.
-pub(crate) fn part_with<'p, 'l, 'a>(
-    parts: &'p [Part<'l, 'a>],
-    head: Head,
-) -> Option<&'p Part<'l, 'a>> {
+fn part_with<'p, 'l, 'a>(parts: &'p [Part<'l, 'a>], head: Head) -> Option<&'p Part<'l, 'a>> {
     parts.iter().find(|part| part.head == head)
 }
 
-/// Sees that no two parts have one head.
+/// Sees that no line stands twice.
 fn no_repeats(parts: &[Part<'_, '_>]) -> Result<(), ReadCasesError> {
     for (at, first) in parts.iter().enumerate() {
-        if let Some(second) = part_with(behind(parts, at), first.head) {
+        if let Some(second) = second_of(first.head, behind(parts, at)) {
             return Err(fault(second.line, CaseFaultKind::Repeated));
         }
     }
     Ok(())
+}
+
+/// The part that has this head too. Shapes may stand again, for the cases behind.
+fn second_of<'p, 'l, 'a>(head: Head, parts: &'p [Part<'l, 'a>]) -> Option<&'p Part<'l, 'a>> {
+    if head == Head::Shapes {
+        return None;
+    }
+    part_with(parts, head)
 }

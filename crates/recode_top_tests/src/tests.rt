@@ -1,0 +1,4 @@
+mod errors;
+mod outside;
+mod programs;
+mod shapes;
