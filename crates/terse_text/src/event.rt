@@ -20,10 +20,7 @@ pub fn first_kind<'de>(rest: &'de [u8]) -> Option<ParseEventKind<'de>>
         b'{' => Some(ParseEventKind::StructStart(ContainerKind::Object)),
         b'}' => Some(ParseEventKind::StructEnd),
         b'-' => Some(ParseEventKind::Scalar(ScalarValue::Null)),
-        b'0'..=b'9' => {
-            let digit = u64::from(byte - b'0');
-            Some(ParseEventKind::Scalar(ScalarValue::U64(digit)))
-        }
+        b'0'..=b'9' => Some(ParseEventKind::Scalar(ScalarValue::U64((byte - b'0') as u64))),
         b'a'..=b'z' => {
             let key = Text::Borrowed(first_letter(rest));
             Some(ParseEventKind::FieldKey(FieldKey::Name(key)))

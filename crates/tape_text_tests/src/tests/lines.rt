@@ -4,7 +4,7 @@ use std::test::*;
 use tape_text::TapeParser;
 
 /// Lines that no value is made of, or of which a value doesn't tell all.
-const LINES: [(&[u8], &str); 26] = [
+const LINES: [(&[u8], &str); 27] = [
     (b"{\n", "StructStart(Object)@[0..1)"),
     (b"[\n", "SequenceStart(Array)@[0..1)"),
     (b"o\n", "OrderedField@[0..1)"),
@@ -12,7 +12,8 @@ const LINES: [(&[u8], &str); 26] = [
     (b"null\n", "Scalar(Null)@[0..4)"),
     (b"U 5\n", "Scalar(U128(5))@[0..3)"),
     (b"I -5\n", "Scalar(I128(-5))@[0..4)"),
-    (b"k -\n", "Full(None)"),
+    (b"k -\n", "Full(None)@[0..3)"),
+    (b"k \"\"\n", "FieldKey(Name(Borrowed(\"\")))@[0..4)"),
     (b"k \"a b\"\n", "FieldKey(Name(Borrowed(\"a b\")))@[0..7)"),
     (
         b"k \"a\\nb\"\n",
@@ -20,9 +21,9 @@ const LINES: [(&[u8], &str); 26] = [
     ),
     (
         b"k \"a\" tag \"t\"\n",
-        "Full(Some(Borrowed(\"a\"))) tag Borrowed(\"t\")",
+        "Full(Some(Borrowed(\"a\")))@[0..13) tag Borrowed(\"t\")",
     ),
-    (b"k - doc \"d\"\n", "Full(None) doc Borrowed(\"d\")"),
+    (b"k - doc \"d\"\n", "Full(None)@[0..11) doc Borrowed(\"d\")"),
     (b"s \"\"\n", "Scalar(Str(Borrowed(\"\")))@[0..4)"),
     (
         b"s \"\xc3\xa9\\n\xe2\x82\xac\"\n",

@@ -1,5 +1,5 @@
 //! What a parser answers, in words.
-use event_core::{FieldKey, FullFieldKey, ParseError, ParseEvent, ParseEventKind, ValueMeta};
+use event_core::{FieldKey, FullFieldKey, ParseError, ParseEvent, ParseEventKind, Span, ValueMeta};
 use format_traits::FormatParser;
 use std::alloc::{AllocError, Global};
 use std::process::Abort;
@@ -22,17 +22,17 @@ fn put_meta(out: &mut String, meta: &ValueMeta<'_>) -> Result<(), AllocError> {
     Ok(())
 }
 
-/// The name of a key with metadata.
-fn put_full_key(out: &mut String, key: &FullFieldKey<'_>) -> Result<(), AllocError> {
+/// The name of a key with metadata, its place, and the metadata.
+fn put_full_key(out: &mut String, key: &FullFieldKey<'_>, span: &Span) -> Result<(), AllocError> {
     let name = &key.name;
-    write!(out, "Full({name:?})")?;
+    write!(out, "Full({name:?})@{span}")?;
     put_meta(out, &key.meta)
 }
 
 /// An event, its place, and what is told beside it.
 fn put_event(out: &mut String, event: &ParseEvent<'_>) -> Result<(), AllocError> {
     if let ParseEventKind::FieldKey(FieldKey::Full(key)) = &event.kind {
-        return put_full_key(out, key.get());
+        return put_full_key(out, key.get(), &event.span);
     }
     write!(out, "{event:?}")?;
     match &event.meta {
