@@ -16,15 +16,15 @@ enum Told {
     Other,
 }
 
-fn told(error: &RecodeError<'_>) -> Told {
+fn part_of(error: &RecodeError<'_>) -> Told {
     match error {
-        RecodeError::Deserialize(error) => told_kind(&error.kind),
+        RecodeError::Deserialize(error) => part_of_kind(&error.kind),
         RecodeError::Trailing { kind: _, span } => Told::Trailing(*span),
         RecodeError::Serialize(_) | RecodeError::Alloc => Told::Other,
     }
 }
 
-fn told_kind(kind: &DeserializeErrorKind<'_>) -> Told {
+fn part_of_kind(kind: &DeserializeErrorKind<'_>) -> Told {
     match kind {
         DeserializeErrorKind::DuplicateField {
             field: _,
@@ -40,7 +40,7 @@ fn refusal(alloc: Global, shapes: &Shapes, root: &str, tape: &[u8]) -> Option<To
     match recode(alloc, shapes, root, 512, 128, tape) {
         Ok(_) => None,
         Err(error) => {
-            let part = told(&error);
+            let part = part_of(&error);
             drop(error);
             Some(part)
         }

@@ -8,7 +8,7 @@ use std::alloc::Global;
 use std::test::*;
 
 /// A field of this shape, without attributes.
-fn field(alloc: Global, name: &str, shape: ShapeId) -> Result<Field, OutOfMemory> {
+fn field(alloc: Global, name: &str, shape: ShapeId) -> Result<Field<'static>, OutOfMemory> {
     Ok(Field {
         name: Name::copy(alloc, name)?,
         rename: None,
@@ -23,7 +23,7 @@ fn field(alloc: Global, name: &str, shape: ShapeId) -> Result<Field, OutOfMemory
 }
 
 /// A struct of one field.
-fn holder(alloc: Global, shape: ShapeId) -> Result<Def, OutOfMemory> {
+fn holder(alloc: Global, shape: ShapeId) -> Result<Def<'static>, OutOfMemory> {
     let mut fields = Items::new(alloc);
     fields.push(field(alloc, "x", shape)?)?;
     Ok(Def::Struct(StructDef {
