@@ -8,7 +8,7 @@ use std::alloc::Global;
 use std::test::*;
 
 /// A field of this shape, without attributes.
-fn field(alloc: Global, name: &str, shape: ShapeId) -> Result<Field<'static>, OutOfMemory> {
+fn field<'v>(alloc: Global, name: &str, shape: ShapeId) -> Result<Field<'v>, OutOfMemory> {
     Ok(Field {
         name: Name::copy(alloc, name)?,
         rename: None,
@@ -23,7 +23,7 @@ fn field(alloc: Global, name: &str, shape: ShapeId) -> Result<Field<'static>, Ou
 }
 
 /// A struct of one field.
-fn holder(alloc: Global, shape: ShapeId) -> Result<Def<'static>, OutOfMemory> {
+fn holder<'v>(alloc: Global, shape: ShapeId) -> Result<Def<'v>, OutOfMemory> {
     let mut fields = Items::new(alloc);
     fields.push(field(alloc, "x", shape)?)?;
     Ok(Def::Struct(StructDef {
@@ -41,7 +41,8 @@ fn optional<'v>(alloc: Global) -> Result<Shapes<'v>, Fail> {
     let option = builder.name("Maybe")?;
     let root = builder.name("Holder")?;
     builder.define(option, Def::Option(ShapeId(6)));
-    builder.define(root, holder(alloc, option)?);
+    let def = holder(alloc, option)?;
+    builder.define(root, def);
     Ok(builder.check(alloc)?)
 }
 
