@@ -78,7 +78,9 @@ impl<'de> TerseParser<'de> {
     {
         match self.look()? {
             Some(event) => {
-                buf.push_back(event).map_err(|_| no_memory())?;
+                if buf.push_back(event).is_err() {
+                    return Err(no_memory());
+                }
                 self.rest = self.rest.split_at(1).1;
                 Ok(true)
             }
