@@ -1,11 +1,10 @@
 //! What errors print.
-ghost use Rattle.std.specs.Prelude.{◌≡◌, ◌++◌, take, codes, Some};
-ghost use Rattle.std.specs.Fmt.{DisplaysOnOk, decimal, debug_char, ◌++?◌};
+ghost use Rattle.std.specs.Prelude.{◌≡◌, take, Some};
+ghost use Rattle.std.specs.Fmt.{DisplaysOnOk};
 ghost use Rattle.event_core.specs.ErrorTexts.{refusal_text, token_text, number_text, utf8_text, unknown_text, with_context};
 
 use crate::error::{DeserializeError, DeserializeErrorKind, ParseError, SerializeError};
 use crate::reflect::ReflectErrorKind;
-use crate::texts::{write_five, write_four, write_three, write_two};
 use shape_core::Name;
 use std::error::Error;
 use std::fmt;
@@ -17,9 +16,11 @@ impl fmt::Display for DeserializeErrorKind<'_> {
 
     fn fmt<W: fmt::Write>(&self, f: &mut fmt::Formatter<W>) -> fmt::Result {
         match self {
-            DeserializeErrorKind::UnexpectedChar { ch, expected } => write_char(*ch, expected, f),
+            DeserializeErrorKind::UnexpectedChar { ch, expected } => {
+                write!(f, "unexpected character {ch:?}, expected {expected}")
+            }
             DeserializeErrorKind::UnexpectedEof { expected } => {
-                write_two("unexpected end of input, expected ", expected, f)
+                write!(f, "unexpected end of input, expected {expected}")
             }
             DeserializeErrorKind::InvalidUtf8 {
                 context,
@@ -29,24 +30,11 @@ impl fmt::Display for DeserializeErrorKind<'_> {
                 write_token(got.as_str(), expected, f)
             }
             DeserializeErrorKind::TypeMismatch { expected, got } => {
-                let expected = expected.name.as_str();
-                write_four(
-                    "type mismatch: expected ",
-                    expected,
-                    ", got ",
-                    got.as_str(),
-                    f,
-                )
+                let got = got.as_str();
+                write!(f, "type mismatch: expected {expected}, got {got}")
             }
             DeserializeErrorKind::ShapeMismatch { expected, got } => {
-                let expected = expected.name.as_str();
-                write_four(
-                    "shape mismatch: expected ",
-                    expected,
-                    ", got ",
-                    got.name.as_str(),
-                    f,
-                )
+                write!(f, "shape mismatch: expected {expected}, got {got}")
             }
             DeserializeErrorKind::UnknownField { field, suggestion } => {
                 write_unknown(field.as_str(), suggestion, f)
@@ -55,93 +43,69 @@ impl fmt::Display for DeserializeErrorKind<'_> {
                 variant,
                 enum_shape,
             } => {
-                let shape = enum_shape.name.as_str();
-                write_five(
-                    "unknown variant `",
-                    variant.as_str(),
-                    "` for enum `",
-                    shape,
-                    "`",
-                    f,
-                )
+                let variant = variant.as_str();
+                write!(f, "unknown variant `{variant}` for enum `{enum_shape}`")
             }
             DeserializeErrorKind::NoMatchingVariant {
                 enum_shape,
                 input_kind,
-            } => {
-                let shape = enum_shape.name.as_str();
-                write_five(
-                    "no matching variant found for enum `",
-                    shape,
-                    "` with ",
-                    input_kind,
-                    " input",
-                    f,
-                )
-            }
+            } => write!(
+                f,
+                "no matching variant found for enum `{enum_shape}` with {input_kind} input"
+            ),
             DeserializeErrorKind::MissingField {
                 field,
                 container_shape,
             } => {
-                let shape = container_shape.name.as_str();
-                write_five(
-                    "missing field `",
-                    field.as_str(),
-                    "` in type `",
-                    shape,
-                    "`",
-                    f,
-                )
+                let field = field.as_str();
+                write!(f, "missing field `{field}` in type `{container_shape}`")
             }
             DeserializeErrorKind::DuplicateField { field, .. } => {
-                write_three("duplicate field `", field.as_str(), "`", f)
+                let field = field.as_str();
+                write!(f, "duplicate field `{field}`")
             }
             DeserializeErrorKind::NumberOutOfRange { value, target_type } => {
                 write_number(value.as_str(), target_type, f)
             }
             DeserializeErrorKind::InvalidValue { message } => {
-                write_two("invalid value: ", message.as_str(), f)
+                let message = message.as_str();
+                write!(f, "invalid value: {message}")
             }
             DeserializeErrorKind::CannotBorrow { reason } => f.write_str(reason.as_str()),
             DeserializeErrorKind::Reflect { kind, context } => write_refusal(kind, context, f),
             DeserializeErrorKind::Unsupported { message } => {
-                write_two("unsupported: ", message.as_str(), f)
+                let message = message.as_str();
+                write!(f, "unsupported: {message}")
             }
-            DeserializeErrorKind::Io { message } => write_two("I/O error: ", message.as_str(), f),
+            DeserializeErrorKind::Io { message } => {
+                let message = message.as_str();
+                write!(f, "I/O error: {message}")
+            }
             DeserializeErrorKind::Solver { message } => {
-                write_two("solver error: ", message.as_str(), f)
+                let message = message.as_str();
+                write!(f, "solver error: {message}")
             }
             DeserializeErrorKind::Validation { field, message } => {
                 let field = field.as_str();
-                write_four(
-                    "validation failed for field `",
-                    field,
-                    "`: ",
-                    message.as_str(),
-                    f,
-                )
+                let message = message.as_str();
+                write!(f, "validation failed for field `{field}`: {message}")
             }
             DeserializeErrorKind::Bug { error, context } => {
-                write_four("internal error: ", error.as_str(), " while ", context, f)
+                let error = error.as_str();
+                write!(f, "internal error: {error} while {context}")
             }
             DeserializeErrorKind::Alloc { operation } => {
-                write_two("allocation failed: ", operation, f)
+                write!(f, "allocation failed: {operation}")
             }
-            DeserializeErrorKind::Materialize { expected, actual } => {
-                let expected = expected.name.as_str();
-                write_four(
-                    "shape mismatch when materializing: expected ",
-                    expected,
-                    ", got ",
-                    actual.name.as_str(),
-                    f,
-                )
-            }
+            DeserializeErrorKind::Materialize { expected, actual } => write!(
+                f,
+                "shape mismatch when materializing: expected {expected}, got {actual}"
+            ),
             DeserializeErrorKind::RawCaptureNotSupported { shape } => write!(
                 f,
                 "raw capture not supported: type `{shape}` requires raw capture, but the parser does not support it (e.g., streaming mode without buffering)"
             ),
-            DeserializeErrorKind::TooDeep { limit } => write_depth(*limit, f),
+            DeserializeErrorKind::TooDeep { limit } => { write!(f, "nesting deeper than {limit}") }
         }
     }
 }
@@ -161,28 +125,16 @@ fn near(context: &[u8; 16], len: u8) -> &[u8]
     if len < 16 { &context[..len] } else { context }
 }
 
-fn write_char<W: fmt::Write>(ch: char, expected: &str, f: &mut fmt::Formatter<W>) -> fmt::Result
-    ensures { DisplaysOnOk W.write_str_gives f.old result (Some (codes "unexpected character ") ++? (debug_char ch ++? Some (codes ", expected " ++ expected.now))) f.new }
-{
-    write!(f, "unexpected character {ch:?}, expected {expected}")
-}
-
 fn write_token<W: fmt::Write>(got: &str, expected: &str, f: &mut fmt::Formatter<W>) -> fmt::Result
     ensures { DisplaysOnOk W.write_str_gives f.old result (Some (token_text got.now expected.now)) f.new }
 {
-    write_four("unexpected token: got ", got, ", expected ", expected, f)
+    write!(f, "unexpected token: got {got}, expected {expected}")
 }
 
 fn write_number<W: fmt::Write>(number: &str, target: &str, f: &mut fmt::Formatter<W>) -> fmt::Result
     ensures { DisplaysOnOk W.write_str_gives f.old result (Some (number_text number.now target.now)) f.new }
 {
-    write_four("number `", number, "` out of range for ", target, f)
-}
-
-fn write_depth<W: fmt::Write>(limit: usize, f: &mut fmt::Formatter<W>) -> fmt::Result
-    ensures { DisplaysOnOk W.write_str_gives f.old result (Some (codes "nesting deeper than " ++ decimal limit)) f.new }
-{
-    write!(f, "nesting deeper than {limit}")
+    write!(f, "number `{number}` out of range for {target}")
 }
 
 fn write_utf8<W: fmt::Write>(near: &[u8], f: &mut fmt::Formatter<W>) -> fmt::Result
@@ -203,15 +155,11 @@ fn write_unknown<W: fmt::Write>(
     ensures { DisplaysOnOk W.write_str_gives f.old result (Some (unknown_text field.now suggestion.now)) f.new }
 {
     match suggestion {
-        None => write_three("unknown field `", field, "`", f),
-        Some(name) => write_five(
-            "unknown field `",
-            field,
-            "` (did you mean `",
-            name.as_str(),
-            "`?)",
-            f,
-        ),
+        None => write!(f, "unknown field `{field}`"),
+        Some(name) => {
+            let name = name.as_str();
+            write!(f, "unknown field `{field}` (did you mean `{name}`?)")
+        }
     }
 }
 

@@ -16,7 +16,6 @@ mod reflect_text;
 mod scalar;
 mod span;
 mod steps;
-mod texts;
 
 pub use error::{DeserializeError, DeserializeErrorKind, ParseError, SerializeError};
 pub use event::{ContainerKind, ParseEvent, ParseEventKind};

@@ -4,7 +4,6 @@ ghost use Rattle.std.specs.List.{flat_map};
 ghost use Rattle.std.specs.Fmt.{DisplaysOnOk};
 ghost use Rattle.event_core.specs.ErrorTexts.{step_text};
 
-use crate::texts::write_two;
 use shape_core::{Items, OutOfMemory, Text};
 use std::alloc::Global;
 use std::fmt;
@@ -121,9 +120,15 @@ impl fmt::Display for PathSegment<'_> {
 
     fn fmt<W: fmt::Write>(&self, f: &mut fmt::Formatter<W>) -> fmt::Result {
         match self {
-            PathSegment::Field(name) => write_two(".", name.as_str(), f),
+            PathSegment::Field(name) => {
+                let name = name.as_str();
+                write!(f, ".{name}")
+            }
             PathSegment::Index(at) => write!(f, "[{at}]"),
-            PathSegment::Variant(name) => write_two("::", name.as_str(), f),
+            PathSegment::Variant(name) => {
+                let name = name.as_str();
+                write!(f, "::{name}")
+            }
         }
     }
 }

@@ -1,6 +1,5 @@
 //! What the refusals of a builder print.
 use crate::reflect::{ReflectError, ReflectErrorKind};
-use crate::texts::{write_five, write_four, write_two};
 use std::error::Error;
 use std::fmt;
 
@@ -13,43 +12,25 @@ impl fmt::Display for ReflectErrorKind<'_> {
     fn fmt<W: fmt::Write>(&self, f: &mut fmt::Formatter<W>) -> fmt::Result {
         match self {
             ReflectErrorKind::UninitializedField { shape, field } => {
-                let shape = shape.name.as_str();
-                write_five("field `", field.as_str(), "` of ", shape, " not set", f)
+                let field = field.as_str();
+                write!(f, "field `{field}` of {shape} not set")
             }
             ReflectErrorKind::ParseFailed { shape, text } => {
-                write_four(
-                    "failed to parse `",
-                    text.as_str(),
-                    "` as ",
-                    shape.name.as_str(),
-                    f,
-                )
+                let text = text.as_str();
+                write!(f, "failed to parse `{text}` as {shape}")
             }
             ReflectErrorKind::NoSuchVariant { shape, name } => {
-                write_four(
-                    "no variant `",
-                    name.as_str(),
-                    "` in ",
-                    shape.name.as_str(),
-                    f,
-                )
+                let name = name.as_str();
+                write!(f, "no variant `{name}` in {shape}")
             }
             ReflectErrorKind::NoSuchDiscriminant {
                 shape,
                 discriminant,
             } => write!(f, "no variant with discriminant {discriminant} in {shape}"),
             ReflectErrorKind::WrongKind { shape, got } => {
-                write_four(
-                    "wrong kind: got ",
-                    got,
-                    ", expected ",
-                    shape.name.as_str(),
-                    f,
-                )
+                write!(f, "wrong kind: got {got}, expected {shape}")
             }
-            ReflectErrorKind::NoDefault { shape } => {
-                write_two(shape.name.as_str(), " has no default", f)
-            }
+            ReflectErrorKind::NoDefault { shape } => write!(f, "{shape} has no default"),
             ReflectErrorKind::ArrayLength {
                 shape,
                 expected,
@@ -58,9 +39,7 @@ impl fmt::Display for ReflectErrorKind<'_> {
             ReflectErrorKind::TooManyElements { shape, count } => {
                 write!(f, "more than {count} elements for {shape}")
             }
-            ReflectErrorKind::KeyForm { shape } => {
-                write_two(shape.name.as_str(), " can't be a map key", f)
-            }
+            ReflectErrorKind::KeyForm { shape } => write!(f, "{shape} can't be a map key"),
             ReflectErrorKind::Alloc => f.write_str("out of memory"),
         }
     }
