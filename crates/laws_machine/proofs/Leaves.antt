@@ -1,9 +1,9 @@
 -- Where the faults of a step stand.
-use Rattle.std.proofs.Common.{◌≡◌, ◌⊎◌, inl, inr, ℕ, zero, suc, ◌+◌, List, [], ◌∷◌, ◌++◌, length, drop, slice_get, Option, Some, None, Result, Ok, Err, Bool, true, false, cond, not, ◌&&◌, refl, sym, ◌∙◌, ap}
-use Rattle.semantics.specs.Trees.{Tree, Trees, structure, none, some, trees_of}
+use Rattle.std.proofs.Common.{◌≡◌, inl, inr, ℕ, zero, suc, ◌+◌, List, [], ◌∷◌, ◌++◌, length, drop, slice_get, Option, Some, None, Result, Ok, Err, Bool, true, false, cond, not, ◌&&◌, ap}
+use Rattle.semantics.specs.Trees.{Tree, structure, none, some, trees_of}
 use Rattle.semantics.specs.Shapes.{Field, StructShape, is_tuple, Registry, Definition, scalar_shape, option_shape, result_shape, list_shape, array_shape, set_shape, map_shape, struct_shape, enum_shape, transparent_shape, definition_at}
 use Rattle.semantics.specs.Events.{Span, no_span, Key, key_note, scalar, key, tag, of_struct, of_sequence, object_kind, array_kind, Event, leaf, start, stop, span_of}
-use Rattle.semantics.specs.Faults.{Step, FaultKind, Fault, duplicate_field, too_deep}
+use Rattle.semantics.specs.Faults.{Step, FaultKind, Fault, duplicate_field}
 use Rattle.semantics.specs.Places.{Path, At as Placed, below, has_whole, Choice}
 use Rattle.semantics.specs.Keys.{leads, is_allowed}
 use Rattle.semantics.specs.Registry.{has_some}
@@ -17,15 +17,15 @@ use Rattle.laws_reading.specs.Structs.{Told, End, leaf_at, is_taken, taken_span,
 use Rattle.laws_reading.specs.Structs as structs
 use Rattle.laws_reading.specs.Nodes.{Target, or_refused, or_unexpected}
 use Rattle.laws_reading.specs.Options.{side_of, side_in, outcome}
-use Rattle.laws_reading.specs.Sequences.{Items, other_length, length_fault, items_end}
+use Rattle.laws_reading.specs.Sequences.{Items, length_fault, items_end}
 use Rattle.laws_reading.specs.Tuples.{filled_from, empty_tuple}
 use Rattle.laws_reading.specs.Tuples as tuples
 use Rattle.laws_reading.specs.Values.{Terms}
-use Rattle.laws_machine.specs.Frames.{Frame, awaits, option, items, elements, keyed, keyed_item, object, field, outcome_key, outcome_side, outcome_end, node, argument, passing, Frames, ItemsPart, TuplePart, StructPart, ResultPart, NodePart, path}
-use Rattle.laws_machine.specs.Delivery.{going, complete, Steps, here, no_step, deliver, handed, past_key, with_argument}
-use Rattle.laws_machine.specs.Begins.{BeginsPart, begin_scalar, begin_option, begin_result, begin_items, begin_tuple, begin_object, new_tuple, new_object, begin_struct, begin_as, begin, await_as, await}
-use Rattle.laws_machine.specs.Steps.{more_step, item_step, too_many, as_tuple, tuple_step, element_in, element_step, keyed_in, keyed_step, entry_step, plan_in, entered, end_step, lead_step, field_step, struct_end, side_step, close_step, pass_on, pass_behind, pass_step, argument_step, node_step, set_in, set_step, step_at}
-use Rattle.laws_machine.specs.Leaves.{unless, leaves_as, begin_leaves, or_past, element_leaves, leaves, At, FaultsStand}
+use Rattle.laws_machine.specs.Frames.{awaits, option, items, elements, keyed, keyed_item, object, field, outcome_key, outcome_side, outcome_end, node, argument, passing, Frames, ItemsPart, TuplePart, StructPart, ResultPart, NodePart, path}
+use Rattle.laws_machine.specs.Delivery.{going, complete, Steps, here, deliver, handed, past_key, with_argument}
+use Rattle.laws_machine.specs.Begins.{begin_scalar, begin_option, begin_result, begin_items, begin_struct, begin_as, begin, await_as, await}
+use Rattle.laws_machine.specs.Steps.{more_step, item_step, as_tuple, tuple_step, element_in, element_step, keyed_in, keyed_step, entry_step, plan_in, entered, end_step, lead_step, field_step, struct_end, side_step, close_step, pass_on, pass_behind, argument_step, node_step, set_in, set_step}
+use Rattle.laws_machine.specs.Leaves.{unless, leaves_as, begin_leaves, or_past, element_leaves, At, FaultsStand}
 
 at_ok : {A : Type 0} (span : Span) (x : A) → At span (Ok x)
 at_ok span x f is = absurd cc

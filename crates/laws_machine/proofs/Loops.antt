@@ -1,13 +1,12 @@
 -- Steps in turn.
-use Rattle.std.proofs.Common.{◌≡◌, List, [], ◌∷◌, Result, Ok, Err, refl, sym, ◌∙◌, ap}
+use Rattle.std.proofs.Common.{Result, sym, ◌∙◌, ap}
 use Rattle.semantics.specs.Trees.{Tree}
 use Rattle.semantics.specs.Events.{Span, span_of}
 use Rattle.semantics.specs.Faults.{Fault, Ending}
 use Rattle.laws_reading.specs.Input.{Input, feed, ◌>>=◌}
 use Rattle.laws_reading.specs.Values.{Terms}
 use Rattle.laws_machine.specs.Frames.{Frames}
-use Rattle.laws_machine.specs.Steps.{step_at}
-use Rattle.laws_machine.specs.Machine.{run, on}
+use Rattle.laws_machine.specs.Machine.{on}
 use Rattle.laws_machine.specs.Laws.{LoopKeeps}
 
 pub loop_keeps : (t : Terms) (told : Result (Tree × Input) Fault) (fs : Frames) (ending : Ending) (last : Span) → LoopKeeps t told fs ending last

@@ -1,8 +1,8 @@
 -- Scalars, and nodes.
-use Rattle.std.proofs.Common.{◌≡◌, ℕ, ◌+◌, ◌<◌, ◌≤◌, List, [], ◌∷◌, length, Option, Some, None, Result, Ok, Err, Bool, true, false, cond, refl, sym, ◌∙◌, ap, arith}
+use Rattle.std.proofs.Common.{◌≡◌, ◌+◌, ◌≤◌, List, [], ◌∷◌, length, Option, Some, None, Result, Ok, Err, Bool, true, false, cond, refl, ◌∙◌, arith}
 use Rattle.semantics.specs.Trees.{Tree}
 use Rattle.semantics.specs.Events.{Span, Key, key_note, scalar, key, tag, of_struct, of_sequence, Event, leaf, start, stop, span_of}
-use Rattle.semantics.specs.Faults.{Step, Fault, Ending}
+use Rattle.semantics.specs.Faults.{Fault, Ending}
 use Rattle.semantics.specs.Setters.{Outcome, set_scalar}
 use Rattle.semantics.specs.Reading.{is_argument, is_key}
 use Rattle.laws_reading.specs.Input.{Input, feed, ◌>>=◌, unexpected}
@@ -10,7 +10,7 @@ use Rattle.laws_reading.specs.Skips.{Opened, skip_at}
 use Rattle.laws_reading.specs.Nodes.{Target, or_refused, Node, bare_node, argument_at, unchanged, node_entry, node_value, scalar_at}
 use Rattle.laws_reading.specs.Nodes as nodes
 use Rattle.laws_reading.specs.Values.{Terms}
-use Rattle.laws_machine.specs.Frames.{Frame, node, argument, passing, Frames, NodePart, path}
+use Rattle.laws_machine.specs.Frames.{Frame, node, passing, Frames, NodePart, path}
 use Rattle.laws_machine.specs.Delivery.{going, here, handed, with_argument}
 use Rattle.laws_machine.specs.Begins.{begin_scalar}
 use Rattle.laws_machine.specs.Steps.{argument_step, node_step, set_in}

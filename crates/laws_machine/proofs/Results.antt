@@ -1,14 +1,14 @@
 -- Options and results.
 use Rattle.std.proofs.Common.{◌≡◌, ℕ, List, [], ◌∷◌, ◌++◌, Option, Some, None, Result, Ok, Err, Bool, true, false, refl, sym, ◌∙◌}
 use Rattle.semantics.specs.Trees.{Tree}
-use Rattle.semantics.specs.Events.{Span, scalar, key, tag, of_struct, of_sequence, Event, leaf, start, stop, span_of}
-use Rattle.semantics.specs.Faults.{Step, variant_step, Fault, Ending}
+use Rattle.semantics.specs.Events.{Span, of_struct, of_sequence, Event, leaf, start, stop, span_of}
+use Rattle.semantics.specs.Faults.{variant_step, Fault, Ending}
 use Rattle.semantics.specs.Reading.{from_events}
 use Rattle.semantics.specs.Causes.{is_nothing_event}
 use Rattle.laws_reading.specs.Input.{Input, feed, ◌>>=◌}
 use Rattle.laws_reading.specs.Options.{with_some, option_of, option_at, Sides, side_of, side_in, result_closed, result_side, result_inside, result_at}
 use Rattle.laws_reading.specs.Values.{Terms, reading}
-use Rattle.laws_machine.specs.Frames.{option, outcome_key, outcome_side, outcome_end, Frames, ResultPart, path}
+use Rattle.laws_machine.specs.Frames.{option, outcome_key, outcome_side, outcome_end, Frames, path}
 use Rattle.laws_machine.specs.Begins.{begin_option, begin_result, new_result, begin}
 use Rattle.laws_machine.specs.Steps.{side_step}
 use Rattle.laws_machine.specs.Machine.{run, on}

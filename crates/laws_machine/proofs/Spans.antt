@@ -1,13 +1,13 @@
 -- Of the input at the end of a value, only the span counts that was taken last.
-use Rattle.std.proofs.Common.{◌≡◌, ℕ, zero, suc, List, [], ◌∷◌, ◌++◌, length, Option, Some, None, Result, Ok, Err, Bool, true, false, cond, refl, sym, ◌∙◌, ap}
+use Rattle.std.proofs.Common.{◌≡◌, ℕ, zero, suc, List, [], ◌∷◌, ◌++◌, length, Option, Some, None, Result, Ok, Err, Bool, true, false, cond, refl, ◌∙◌, ap}
 use Rattle.semantics.specs.Trees.{Tree, Trees}
 use Rattle.semantics.specs.Shapes.{Field, Definition, Registry, definition_at}
-use Rattle.semantics.specs.Events.{Bracket, scalar, key, tag, Event, leaf, start, stop}
+use Rattle.semantics.specs.Events.{scalar, key, tag, Event, leaf, start, stop}
 use Rattle.semantics.specs.Faults.{Step, Fault}
-use Rattle.semantics.specs.Places.{Path, At, below, has_whole, Choice}
+use Rattle.semantics.specs.Places.{At, below, has_whole, Choice}
 use Rattle.semantics.specs.Keys.{Layout}
 use Rattle.semantics.specs.Reading.{fill, in_parts}
-use Rattle.laws_reading.specs.Input.{Input, feed, ◌>>=◌}
+use Rattle.laws_reading.specs.Input.{Input, ◌>>=◌}
 use Rattle.laws_reading.specs.Skips.{Opened, same_bracket, stopped, skip_of}
 use Rattle.laws_reading.specs.Structs.{Got, Told, Spot, gather_own, gather_field, gather_fields, gather_flat, inner_spot, with_tree, as_structure, gathered}
 use Rattle.laws_reading.specs.Structs as structs

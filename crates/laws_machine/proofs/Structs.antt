@@ -1,21 +1,21 @@
 -- Structs with named fields.
-use Rattle.std.proofs.Common.{◌≡◌, ℕ, ◌+◌, ◌<◌, ◌≤◌, List, [], ◌∷◌, ◌++◌, length, Option, Some, None, Result, Ok, Err, Bool, true, false, cond, not, ◌&&◌, refl, sym, ◌∙◌, ap, arith}
+use Rattle.std.proofs.Common.{◌≡◌, ℕ, ◌+◌, ◌≤◌, List, [], ◌∷◌, ◌++◌, length, Option, Some, None, Result, Ok, Err, Bool, true, false, cond, not, ◌&&◌, refl, ◌∙◌, arith}
 use Rattle.semantics.specs.Trees.{Tree}
 use Rattle.semantics.specs.Shapes.{StructShape, Registry}
 use Rattle.semantics.specs.Events.{Span, Key, key_note, scalar, key, tag, of_struct, of_sequence, Event, leaf, start, stop, span_of}
-use Rattle.semantics.specs.Faults.{Step, duplicate_field, Fault, Ending}
+use Rattle.semantics.specs.Faults.{duplicate_field, Fault, Ending}
 use Rattle.semantics.specs.Places.{Path}
 use Rattle.semantics.specs.Keys.{Plan, plan_of, leads, after_key, is_allowed}
 use Rattle.semantics.specs.Reading.{source_of, key_text, plain_layout}
 use Rattle.laws_reading.specs.Input.{Input, feed, ◌>>=◌, refused, unexpected}
-use Rattle.laws_reading.specs.Objects.{Takes, Finish}
+use Rattle.laws_reading.specs.Objects.{Takes}
 use Rattle.laws_reading.specs.Skips.{Opened, skip_at}
 use Rattle.laws_reading.specs.Structs.{Got, nothing_got, End, leaf_at, steps_at, is_taken, taken_span, got_value, at_end_of, passed_over, at_path, field_at, gathered, struct_at}
 use Rattle.laws_reading.specs.Values.{Terms, reading}
 use Rattle.laws_machine.specs.Frames.{Frame, object, field, Frames, StructPart, path}
 use Rattle.laws_machine.specs.Delivery.{with_got, past_key}
 use Rattle.laws_machine.specs.Begins.{begin_object, new_object, await}
-use Rattle.laws_machine.specs.Steps.{plan_in, entered, end_step, lead_step, field_step, struct_end}
+use Rattle.laws_machine.specs.Steps.{entered, end_step, lead_step, field_step, struct_end}
 use Rattle.laws_machine.specs.Machine.{run, on}
 use Rattle.laws_machine.proofs.Turns.{resume, Meets, skip_meets, entries_meet}
 use Rattle.laws_machine.proofs.Falls.{reading_falls, skip_falls}

@@ -3,17 +3,17 @@ use Rattle.std.proofs.Common.{◌≡◌, ℕ, zero, suc, ◌+◌, ◌<◌, ◌�
 use Rattle.semantics.specs.Trees.{Tree}
 use Rattle.semantics.specs.Shapes.{Definition, scalar_shape, option_shape, result_shape, list_shape, array_shape, set_shape, map_shape, struct_shape, enum_shape, transparent_shape, definition_at}
 use Rattle.semantics.specs.Events.{Span, Key, key_note, scalar, key, tag, of_struct, of_sequence, Event, leaf, start, stop, span_of}
-use Rattle.semantics.specs.Faults.{Step, Fault, Ending}
+use Rattle.semantics.specs.Faults.{Fault, Ending}
 use Rattle.semantics.specs.Reading.{Source, from_events}
 use Rattle.laws_reading.specs.Input.{Input, feed, ◌>>=◌, turned, turning}
 use Rattle.laws_reading.specs.Skips.{Opened, skip_of, skip_turn, skip_at}
 use Rattle.laws_reading.specs.Objects.{Takes, Finish, goes_with, entry_at, with_rest, finished}
 use Rattle.laws_reading.specs.Values.{Terms, reading}
-use Rattle.laws_machine.specs.Frames.{Frame, awaits, passing, Frames, path}
-use Rattle.laws_machine.specs.Delivery.{Status, Steps, here, deliver, handed}
+use Rattle.laws_machine.specs.Frames.{Frame, passing, Frames, path}
+use Rattle.laws_machine.specs.Delivery.{Steps, here, deliver}
 use Rattle.laws_machine.specs.Begins.{begin_as, begin, await_as, await}
-use Rattle.laws_machine.specs.Steps.{entry_step, pass_on, pass_behind, pass_step, step_at}
-use Rattle.laws_machine.specs.Machine.{runs, run, on}
+use Rattle.laws_machine.specs.Steps.{entry_step, pass_on, pass_behind, step_at}
+use Rattle.laws_machine.specs.Machine.{run, on}
 use Rattle.laws_machine.proofs.Spans.{onto, skip_here}
 
 pub bind_bind : {A B C : Type 0} (r : Result A Fault) (f : A → Result B Fault) (g : B → Result C Fault) → ((r >>= f) >>= g) ≡ (r >>= λ x. f x >>= g)

@@ -1,5 +1,5 @@
 -- What stands behind an event: what is open, or the whole value.
-use Rattle.std.specs.Prelude.{◌+◌, [], ◌∷◌, ◌++◌, Option, Some, Result, Ok}
+use Rattle.std.specs.Prelude.{[], ◌∷◌, ◌++◌, Option, Some, Result, Ok}
 use Rattle.semantics.specs.Trees.{Tree, some}
 use Rattle.semantics.specs.Events.{Span, no_span, Key}
 use Rattle.semantics.specs.Faults.{Fault, ends}
@@ -7,7 +7,7 @@ use Rattle.semantics.specs.Places.{At}
 use Rattle.semantics.specs.Keys.{after_key}
 use Rattle.laws_reading.specs.Input.{Input, feed, never}
 use Rattle.laws_reading.specs.Structs.{Told, Got}
-use Rattle.laws_machine.specs.Frames.{ItemsPart, TuplePart, StructPart, Entered, NodePart, option, items, elements, keyed, keyed_item, object, field, outcome_side, outcome_end, node, Frames}
+use Rattle.laws_machine.specs.Frames.{ItemsPart, TuplePart, StructPart, Entered, NodePart, option, items, elements, keyed, keyed_item, object, field, outcome_side, outcome_end, Frames}
 
 -- after an event: what is open, or the whole value
 pub data Status : Type 0 where

@@ -1,5 +1,5 @@
 -- What is open while a value is read, one frame in another.
-use Rattle.std.specs.Prelude.{ℕ, ◌+◌, List, [], ◌∷◌, ◌++◌, length, Bool}
+use Rattle.std.specs.Prelude.{ℕ, List, [], ◌∷◌, ◌++◌, length, Bool}
 use Rattle.semantics.specs.Trees.{Tree}
 use Rattle.semantics.specs.Events.{Span}
 use Rattle.semantics.specs.Faults.{Step, index_step, variant_step}

@@ -1,12 +1,11 @@
 -- Which events a step only looks at, where it stops at a fault.
-use Rattle.std.specs.Prelude.{◌≡◌, ◌⊎◌, ℕ, zero, suc, List, [], ◌∷◌, length, slice_get, Option, Some, None, Result, Err, Bool, true, false, cond}
+use Rattle.std.specs.Prelude.{◌≡◌, ◌⊎◌, ℕ, zero, suc, ◌∷◌, length, slice_get, Option, Some, None, Result, Err, Bool, true, false, cond}
 use Rattle.semantics.specs.Shapes.{Field, Definition, option_shape, transparent_shape, definition_at}
 use Rattle.semantics.specs.Events.{Span, Event, span_of}
 use Rattle.semantics.specs.Faults.{bug, Fault}
 use Rattle.semantics.specs.Causes.{is_nothing_event, ends_sequence, has_room}
 use Rattle.laws_reading.specs.Values.{Terms}
-use Rattle.laws_machine.specs.Frames.{Frame, awaits, items, elements, Frames}
-use Rattle.laws_machine.specs.Delivery.{Steps}
+use Rattle.laws_machine.specs.Frames.{awaits, items, elements, Frames}
 use Rattle.laws_machine.specs.Steps.{step_at}
 
 -- where the first doesn't hold, whether the second does
