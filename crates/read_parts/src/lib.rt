@@ -8,4 +8,4 @@ mod setter;
 mod target;
 mod text;
 
-pub use setter::scalar_value;
+pub use setter::{scalar_value, typed_value};

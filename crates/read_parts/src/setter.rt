@@ -38,11 +38,25 @@ pub fn scalar_value<'de>(
     requires scalar { IsSome (scalar_at (registry shapes.now) shape.0) }
     ensures { IfSome (scalar_at (registry shapes.now) shape.0) (λ t. Gives (names_at (registry shapes.now) shape.0 t (event_name scalar.entry)) (set_scalar borrow shape.0 t (scalar_of scalar.entry)) result) }
 {
+    typed_value(alloc, shapes, shape, type_of(shapes, shape), scalar, borrow)
+}
+
+/// The same for a shape whose scalar type is known. Refusals name the shape, if there is one of this number.
+pub fn typed_value<'de>(
+    alloc: Global,
+    shapes: &Shapes,
+    shape: ShapeId,
+    target: ScalarType,
+    scalar: ScalarValue<'de>,
+    borrow: bool,
+) -> Result<Value<'de>, DeserializeErrorKind<'de>>
+    ensures { Gives (names_at (registry shapes.now) shape.0 (scalar_type_of target) (event_name scalar.entry)) (set_scalar borrow shape.0 (scalar_type_of target) (scalar_of scalar.entry)) result }
+{
     let target = Target {
         alloc,
         shape,
         name: name_of(shapes, shape),
-        scalar: type_of(shapes, shape),
+        scalar: target,
         event: scalar.kind_name(),
     };
     set(target, scalar, borrow)

@@ -1,0 +1,12 @@
+use Rattle.std.proofs.Common.{◌≡◌, length}
+use Rattle.shape_core.specs.Trees.{tree_of}
+use Rattle.laws_machine.specs.Delivery.{deliver}
+use Rattle.read_steps.specs.Tasks.{terms_of}
+use Rattle.read_steps.specs.Views.{open_of}
+use Rattle.read_steps.proofs.delivery.deliver.Given as goal
+
+abbrev pub invariant-options : goal.invariant-options
+invariant-options l = deliver (open_of (terms_of l.task) l.stack.items) (tree_of l.value) ≡ deliver (open_of (terms_of l.task) l.fn.stack.items) (tree_of l.fn.value)
+
+abbrev pub decreases-options : goal.decreases-options
+decreases-options l = length (open_of (terms_of l.task) l.stack.items)

@@ -1,0 +1,100 @@
+-- The steps of the machine by what an event is, as the code takes them.
+use Rattle.std.specs.Prelude.{◌≡◌, ℕ, List, [], ◌∷◌, length, slice_get, Option, Some, None, Result, Ok, Err, Bool, true, false, cond, codes, bytes_eq}
+use Rattle.semantics.specs.Trees.{Tree, structure, trees_of}
+use Rattle.semantics.specs.Shapes.{Field}
+use Rattle.semantics.specs.Events.{Span}
+use Rattle.semantics.specs.Faults.{Step, duplicate_field, Fault}
+use Rattle.semantics.specs.Typed.{has_length}
+use Rattle.semantics.specs.Reading.{from_events}
+use Rattle.laws_reading.specs.Input.{◌>>=◌, refused, unexpected, never}
+use Rattle.laws_reading.specs.Structs.{taken_span}
+use Rattle.laws_reading.specs.Nodes.{Target, set_at, bare_node}
+use Rattle.laws_reading.specs.Sequences.{items_end}
+use Rattle.laws_reading.specs.Values.{Terms}
+use Rattle.laws_machine.specs.Frames.{ItemsPart, TuplePart, StructPart, Entered, NodePart, elements, keyed, object, field, node, argument, passing, Frames, path}
+use Rattle.laws_machine.specs.Delivery.{going, Steps, here, deliver, handed}
+use Rattle.laws_machine.specs.Begins.{await}
+use Rattle.laws_machine.specs.Steps.{keyed_in, tuple_step, struct_end, set_in}
+use Rattle.read_steps.specs.Fits.{TupleForm, as_sequence, as_object, as_nothing, Begun, as_scalar, as_node, as_other, Mark, at_end, at_name, at_nameless, elsewhere}
+use Rattle.read_steps.specs.Keys.{place_in}
+use Rattle.read_steps.specs.Stops.{Fails}
+
+-- what is to be read is what was, or it is this fault
+abbrev pub Goes : {X A E : Type 0} → (E → Option Fault) → Result X E → Result A Fault → Result A Fault → Type 0
+Goes stop (Ok x) new old = new ≡ old
+Goes stop (Err e) new old = Fails (stop e) old
+
+-- the event is the one that is looked for
+abbrev pub when : Bool → Steps → List Step → Span → Steps
+when true s p span = s
+when false s p span = unexpected p (here span)
+
+-- a list or an array of all its items
+abbrev pub items_done : Terms → ItemsPart → Frames → Span → Steps
+items_done t l fs span = items_end (has_length l.items.len (length l.front)) l.items l.front (path t fs) (here span) >>= handed fs
+
+-- a scalar, or the node that stands for it
+abbrev pub scalar_begun : Begun → Terms → Target → Frames → Span → Steps
+scalar_begun (as_scalar x) t target fs span = set_at target x (path t fs) (here span) >>= handed fs
+scalar_begun as_node t target fs span = Ok (going (node (record { target = target; node = bare_node }) ∷ fs))
+scalar_begun as_other t target fs span = unexpected (path t fs) (here span)
+
+-- a tuple
+abbrev pub tuple_begun : Option TupleForm → Terms → TuplePart → Frames → Span → Steps
+tuple_begun None t l fs span = unexpected (path t fs) (here span)
+tuple_begun (Some as_sequence) t l fs span = Ok (going (elements l ∷ fs))
+tuple_begun (Some as_object) t l fs span = Ok (going (keyed l ∷ fs))
+tuple_begun (Some as_nothing) t l fs span = deliver fs (structure (trees_of []))
+
+-- a key of a tuple, or its end
+abbrev pub keyed_by : Option Bool → Terms → TuplePart → Frames → Span → Steps
+keyed_by None t l fs span = unexpected (path t fs) (here span)
+keyed_by (Some true) t l fs span = keyed_in (slice_get l.elements.fields (length l.front)) t l fs span
+keyed_by (Some false) t l fs span = tuple_step t l fs span
+
+-- the key of a field, unless the field was read already
+abbrev pub fresh_step : Option Span → Field → Terms → StructPart → Entered → Frames → Steps
+fresh_step (Some first) f t s e fs = refused (duplicate_field e.name (Some first)) (path t fs) (here e.span)
+fresh_step None f t s e fs = await t s.depth f.shape from_events (field s e ∷ fs) e.span
+
+abbrev pub place_step : Option Field → Terms → StructPart → Entered → Frames → Steps
+place_step None t s e fs = never (path t fs) (here e.span)
+place_step (Some f) t s e fs = fresh_step (taken_span e.path s.got.values) f t s e fs
+
+-- a key of a struct that names the field at this place, or none
+abbrev pub found_step : Option ℕ → Terms → StructPart → List ℕ → Frames → Span → Steps
+found_step None t s name fs span = Ok (going (passing [] ∷ object s ∷ fs))
+found_step (Some k) t s name fs span = place_step (slice_get s.layout.fields k) t s (record { path = k ∷ []; name = name; span = span }) fs
+
+-- an entry of a struct, or its end
+abbrev pub marked_step : Mark → Terms → StructPart → Frames → Span → Steps
+marked_step at_end t s fs span = struct_end t s fs span >>= deliver fs
+marked_step (at_name name) t s fs span = found_step (place_in s.layout.fields name) t s name fs span
+marked_step at_nameless t s fs span = Ok (going (passing [] ∷ object s ∷ fs))
+marked_step elsewhere t s fs span = unexpected (path t fs) (here span)
+
+-- the key of the argument of a node, which comes once
+abbrev pub argument_by : Option Span → Terms → NodePart → Frames → Span → Steps
+argument_by (Some first) t p fs span = refused (duplicate_field (codes "_arg") (Some first)) (path t fs) (here span)
+argument_by None t p fs span = Ok (going (argument p span ∷ fs))
+
+-- the value of a node at its end
+abbrev pub node_ended : Option Tree → Terms → Frames → Span → Steps
+node_ended None t fs span = unexpected (path t fs) (here span)
+node_ended (Some v) t fs span = deliver fs v
+
+-- a key of a node with a name: that of the argument, or another one
+abbrev pub named_entry : List ℕ → Terms → NodePart → Frames → Span → Steps
+named_entry name t p fs span = cond (bytes_eq name (codes "_arg")) (argument_by p.node.first t p fs span) (Ok (going (passing [] ∷ node p ∷ fs)))
+
+-- an entry of a node, or its end
+abbrev pub node_marked : Mark → Terms → NodePart → Frames → Span → Steps
+node_marked at_end t p fs span = node_ended p.node.value t fs span
+node_marked (at_name name) t p fs span = named_entry name t p fs span
+node_marked at_nameless t p fs span = Ok (going (passing [] ∷ node p ∷ fs))
+node_marked elsewhere t p fs span = unexpected (path t fs) (here span)
+
+-- the argument of a node, which is a scalar
+abbrev pub set_begun : Begun → Terms → NodePart → Span → Frames → Span → Steps
+set_begun (as_scalar x) t p first fs span = set_at p.target x (path t fs) (here span) >>= set_in p first fs
+set_begun _ t p first fs span = unexpected (path t fs) (here span)

@@ -1,0 +1,123 @@
+-- What is open, as the definitions see it. Of a struct the frames keep the number of its shape: its fields are those of the registry.
+use Rattle.std.specs.Prelude.{ℕ, false, List, [], ◌∷◌, map, reverse, option_map}
+use Rattle.semantics.specs.Places.{At}
+use Rattle.shape_core.specs.Scalars.{scalar_type_of}
+use Rattle.shape_core.specs.Texts.{text_bytes}
+use Rattle.shape_core.specs.Trees.{tree_of}
+use Rattle.event_core.specs.Metadata.{span_view}
+use Rattle.laws_reading.specs.Structs.{Told, Got, nothing_got}
+use Rattle.laws_reading.specs.Values.{Terms, target_of}
+use Rattle.laws_machine.specs.Frames as machine
+use Rattle.laws_machine.specs.Frames.{awaits, option, items, elements, keyed, keyed_item, object, field, outcome_key, outcome_side, outcome_end, node, argument, passing}
+use Rattle.laws_machine.specs.Delivery as delivery
+use Rattle.shape_core.specs.declared.shape.ShapeId.{ShapeId}
+use Rattle.read_steps.specs.declared.task.ItemsOf.{ItemsOf}
+use Rattle.read_steps.specs.declared.key.Named.{Named}
+use Rattle.read_steps.specs.declared.filled.Filled.{Filled}
+use Rattle.read_steps.specs.declared.frames.ItemsPart.{ItemsPart}
+use Rattle.read_steps.specs.declared.frames.TuplePart.{TuplePart}
+use Rattle.read_steps.specs.declared.frames.StructPart.{StructPart}
+use Rattle.read_steps.specs.declared.frames.ResultPart.{ResultPart}
+use Rattle.read_steps.specs.declared.frames.NodePart.{NodePart}
+use Rattle.read_steps.specs.declared.frames.Frame.{Frame}
+use Rattle.read_steps.specs.declared.frames.Frame.TheVariants as frame
+use Rattle.read_steps.specs.declared.frames.Next.{Next}
+use Rattle.read_steps.specs.declared.frames.Next.TheVariants as next
+use Rattle.read_steps.specs.declared.frames.Moved.{Moved}
+use Rattle.read_steps.specs.declared.frames.Moved.TheVariants as moved
+use Rattle.read_steps.specs.declared.frames.Frames.{Frames}
+use Rattle.read_steps.specs.Passing.{opened_of}
+use Rattle.read_steps.specs.Tasks.{sides_view, fields_at, denies_at}
+
+-- the items of a list or an array so far
+abbrev pub items_of : ItemsPart → machine.ItemsPart
+items_of p = record { items = record { shape = p.shape.0; len = p.of.len }; item = p.of.item.0; depth = p.depth; front = map tree_of p.front.items }
+
+-- the items of a tuple so far
+abbrev pub tuple_of : Terms → TuplePart → machine.TuplePart
+tuple_of t p = record { elements = record { shape = p.shape.0; fields = fields_at t.setting.registry p.shape.0 }; depth = p.depth; front = map tree_of p.front.items }
+
+-- a key whose value comes
+abbrev pub entered_of : Named → machine.Entered
+entered_of k = record { path = k.place ∷ []; name = text_bytes k.name; span = span_view k.span }
+
+-- a field that was read
+abbrev pub told_of : Filled → At Told
+told_of f = delivery.told_behind (entered_of f.key) (tree_of f.value)
+
+-- The fields that were read. No key names its field by its order yet.
+abbrev pub got_of : List Filled → Got
+got_of fs = record { count = 0; values = map told_of fs }
+
+-- the fields of a struct so far
+abbrev pub struct_of : Terms → StructPart → machine.StructPart
+struct_of t p = record {
+  shape = p.shape.0;
+  deny = denies_at t.setting.registry p.shape.0;
+  layout = record { fields = fields_at t.setting.registry p.shape.0; whole = false };
+  depth = p.depth;
+  got = got_of p.filled.items;
+}
+
+-- a result, before it is known what it holds
+abbrev pub result_of : ResultPart → machine.ResultPart
+result_of p = record { sides = sides_view p.sides; depth = p.depth }
+
+-- what came of the node of a scalar so far
+abbrev pub node_of : Terms → NodePart → machine.NodePart
+node_of t p = record {
+  target = target_of t p.shape.0 (scalar_type_of p.scalar);
+  node = record { first = option_map span_view p.first; value = option_map tree_of p.value };
+}
+
+-- what is open around what is read next
+abbrev pub frame_of : Terms → Frame → machine.Frame
+frame_of t frame.Option = option
+frame_of t (frame.Items p) = items (items_of p)
+frame_of t (frame.Elements p) = elements (tuple_of t p)
+frame_of t (frame.Keyed p) = keyed (tuple_of t p)
+frame_of t (frame.KeyedItem p) = keyed_item (tuple_of t p)
+frame_of t (frame.Object p) = object (struct_of t p)
+frame_of t (frame.Field p k) = field (struct_of t p) (entered_of k)
+frame_of t (frame.ResultKey p) = outcome_key (result_of p)
+frame_of t (frame.ResultSide p ok) = outcome_side (result_of p) ok
+frame_of t (frame.ResultEnd ok v) = outcome_end ok (tree_of v)
+frame_of t (frame.Node p) = node (node_of t p)
+frame_of t (frame.Argument p first) = argument (node_of t p) (span_view first)
+
+-- a list or an array with no items yet
+abbrev pub items_begun : ShapeId → ItemsOf → ℕ → machine.ItemsPart
+items_begun s of n = record { items = record { shape = s.0; len = of.len }; item = of.item.0; depth = n; front = [] }
+
+-- a tuple with no items yet
+abbrev pub tuple_begun_at : Terms → ShapeId → ℕ → machine.TuplePart
+tuple_begun_at t s n = record { elements = record { shape = s.0; fields = fields_at t.setting.registry s.0 }; depth = n; front = [] }
+
+-- a struct with no fields yet
+abbrev pub struct_begun_at : Terms → ShapeId → ℕ → machine.StructPart
+struct_begun_at t s n = record {
+  shape = s.0;
+  deny = denies_at t.setting.registry s.0;
+  layout = record { fields = fields_at t.setting.registry s.0; whole = false };
+  depth = n;
+  got = nothing_got;
+}
+
+-- all that is open, the innermost in front
+abbrev pub open_of : Terms → List Frame → machine.Frames
+open_of t fs = map (frame_of t) (reverse fs)
+
+-- what comes next, in front of all that is open
+abbrev pub next_in : Next → machine.Frames → machine.Frames
+next_in next.Inside fs = fs
+next_in (next.Value shape depth) fs = awaits (record { shape = shape.0; depth = depth }) ∷ fs
+next_in (next.Passed os) fs = passing (opened_of os) ∷ fs
+
+-- what there is behind an event
+abbrev pub moved_of : Moved → machine.Frames → delivery.Status
+moved_of (moved.To n) fs = delivery.going (next_in n fs)
+moved_of (moved.Whole v) fs = delivery.complete (tree_of v)
+
+-- all of it
+abbrev pub frames_of : Terms → Frames → machine.Frames
+frames_of t f = next_in f.next (open_of t f.stack.items)

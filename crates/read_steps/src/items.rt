@@ -1,0 +1,94 @@
+//! The items of lists and arrays.
+ghost use Rattle.std.specs.Prelude.{◌≡◌, map, IfErr};
+ghost use Rattle.semantics.specs.Causes.{ends_sequence};
+ghost use Rattle.semantics.specs.Trees.{list, trees_of};
+ghost use Rattle.shape_core.specs.Trees.{tree_of};
+ghost use Rattle.event_core.specs.Events.{event_of};
+ghost use Rattle.event_core.specs.Metadata.{span_view};
+ghost use Rattle.laws_machine.specs.Steps.{item_step};
+ghost use Rattle.read_steps.specs.Refusals.{length_fault_in};
+ghost use Rattle.read_steps.specs.Stepping.{items_done};
+ghost use Rattle.read_steps.specs.Stops.{told_stop, Gives, IsFault, IsOwn};
+ghost use Rattle.read_steps.specs.Tasks.{terms_of};
+ghost use Rattle.read_steps.specs.Views.{open_of, moved_of, items_of};
+
+use crate::begin::begin_part;
+use crate::delivery::deliver;
+use crate::fits::{ends_sequence, let_go};
+use crate::frames::{Frame, ItemsPart, Moved};
+use crate::refusal::{never, other_length};
+use crate::stop::ReadStop;
+use crate::task::{ItemsOf, Task};
+use event_core::{ParseEvent, Span};
+use shape_core::{Items, ShapeId, Value};
+
+/// One item more, or the end of the sequence.
+#[tactic(auto, using(crate::proofs::Lengths::length_is))]
+pub fn step_items<'de>(
+    task: &Task<'_, '_>,
+    stack: &mut Vec<Frame<'de>>,
+    part: ItemsPart<'de>,
+    before: Span,
+    event: ParseEvent<'de>,
+) -> Result<Moved<'de>, ReadStop<'de>>
+    ensures exact { Gives told_stop (λ m. moved_of m (open_of (terms_of task.now) stack.new.items)) result (item_step (ends_sequence (event_of event.entry)) (terms_of task.now) (items_of part.entry) (open_of (terms_of task.now) stack.old.items) (span_view before) (event_of event.entry)) }
+    ensures own { IfErr result (λ e. IsOwn (told_stop e)) }
+{
+    if ends_sequence(&event) {
+        let span = event.span;
+        let_go(event);
+        return end_items(task, stack, part, span);
+    }
+    let at = part.front.len();
+    if !part.of.has_room(at) {
+        let_go(event);
+        return Err(wrong_length(task, stack.as_slice(), part.shape, part.of, at + 1, before));
+    }
+    let item = part.of.item;
+    let depth = part.depth;
+    stack.push(Frame::Items(part))?;
+    begin_part(task, stack, item, depth, before, event)
+}
+
+/// The list or the array of all items.
+#[tactic(auto, using(crate::proofs::Lengths::length_is))]
+fn end_items<'de>(
+    task: &Task<'_, '_>,
+    stack: &mut Vec<Frame<'de>>,
+    part: ItemsPart<'de>,
+    span: Span,
+) -> Result<Moved<'de>, ReadStop<'de>>
+    ensures exact { Gives told_stop (λ m. moved_of m (open_of (terms_of task.now) stack.new.items)) result (items_done (terms_of task.now) (items_of part.entry) (open_of (terms_of task.now) stack.old.items) (span_view span)) }
+    ensures own { IfErr result (λ e. IsOwn (told_stop e)) }
+{
+    let got = part.front.len();
+    if !part.of.is_whole(got) {
+        return Err(wrong_length(task, stack.as_slice(), part.shape, part.of, got, span));
+    }
+    deliver(task, stack, list_of(part.front))
+}
+
+/// The list or array of these items.
+fn list_of<'de>(items: Vec<Value<'de>>) -> Value<'de>
+    ensures { tree_of result ≡ list (trees_of (map tree_of items.entry.items)) }
+{
+    Value::List(Items::from_vec(items))
+}
+
+/// Why an array of another length is refused. A list has none.
+pub fn wrong_length<'e>(
+    task: &Task<'_, '_>,
+    stack: &[Frame<'_>],
+    shape: ShapeId,
+    of: ItemsOf,
+    got: usize,
+    span: Span,
+) -> ReadStop<'e>
+    ensures is { IsFault (told_stop result) (length_fault_in (terms_of task.now) (open_of (terms_of task.now) stack.now) of.len shape.0 got (span_view span)) }
+    ensures own { IsOwn (told_stop result) }
+{
+    match of.len {
+        Some(wanted) => other_length(task, stack, shape, wanted, got, span),
+        None => never(task, stack, span),
+    }
+}

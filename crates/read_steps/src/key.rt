@@ -1,0 +1,58 @@
+//! Keys of a struct.
+ghost use Rattle.std.specs.Prelude.{◌≡◌};
+ghost use Rattle.std.specs.List.{position_from};
+ghost use Rattle.std.specs.Option.{option_map};
+ghost use Rattle.event_core.specs.Keys.{key_name};
+ghost use Rattle.shape_core.specs.Texts.{phrase_of};
+ghost use Rattle.read_steps.specs.Keys.{calls, is_text};
+
+use event_core::{FieldKey, Span};
+use shape_core::{Field, Text};
+
+/// A key that names a field.
+#[derive(Drop)]
+pub struct Named<'de> {
+    /// The place of the field among those of its struct.
+    pub place: usize,
+    /// The text of the key.
+    pub name: Text<'de>,
+    /// Where the key stands.
+    pub span: Span,
+}
+
+/// The name of a key, if it has one.
+pub fn key_text<'de>(key: FieldKey<'de>) -> Option<Text<'de>>
+    ensures { option_map phrase_of result ≡ key_name key.entry }
+{
+    match key {
+        FieldKey::Name(name) => Some(name),
+        FieldKey::Full(full) => full.into_inner().name,
+    }
+}
+
+/// The place of the first field that is read under this key.
+pub fn find_field(fields: &[Field], name: &str) -> Option<usize>
+    ensures { result ≡ position_from (calls name.now) 0 fields.now }
+{
+    fields.iter().position(|field| is_called(field, name))
+}
+
+/// Whether the field is read under this key: its effective name, or its alias.
+fn is_called(field: &Field, name: &str) -> bool
+    ensures { result ≡ calls name.now field.now }
+{
+    let effective = match &field.rename {
+        Some(rename) => rename.as_str(),
+        None => field.name.as_str(),
+    };
+    !field.flatten && (effective == name || is_alias(field, name))
+}
+
+fn is_alias(field: &Field, name: &str) -> bool
+    ensures { result ≡ is_text name.now field.now.alias }
+{
+    match &field.alias {
+        Some(alias) => alias.as_str() == name,
+        None => false,
+    }
+}

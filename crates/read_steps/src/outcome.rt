@@ -1,0 +1,180 @@
+//! Results: the key, what it holds, and the end.
+ghost use Rattle.std.specs.Prelude.{◌≡◌, Some, IfOk, IfErr};
+ghost use Rattle.semantics.specs.Events.{span_of};
+ghost use Rattle.semantics.specs.Faults.{unexpected_token};
+ghost use Rattle.shape_core.specs.Texts.{phrase_of};
+ghost use Rattle.shape_core.specs.Trees.{tree_of};
+ghost use Rattle.event_core.specs.Events.{event_of};
+ghost use Rattle.event_core.specs.Keys.{key_name};
+ghost use Rattle.event_core.specs.Metadata.{span_view};
+ghost use Rattle.laws_reading.specs.Options.{side_in, outcome};
+ghost use Rattle.laws_machine.specs.Steps.{side_step, close_step};
+ghost use Rattle.laws_machine.specs.Delivery.{deliver};
+ghost use Rattle.read_steps.specs.Fits.{fit, named_side};
+ghost use Rattle.read_steps.specs.Refusals.{fault_in};
+ghost use Rattle.read_steps.specs.Stops.{told_stop, Gives, IsFault, IsOwn};
+ghost use Rattle.read_steps.specs.Tasks.{terms_of};
+ghost use Rattle.read_steps.specs.Views.{open_of, moved_of, result_of};
+
+use crate::awaiting::await_next;
+use crate::delivery::deliver;
+use crate::expected::{Expected, Unfit};
+use crate::fits::fit_struct_end;
+use crate::frames::{Frame, Moved, ResultPart};
+use crate::key::key_text;
+use crate::refusal::{refusal, unexpected};
+use crate::stop::ReadStop;
+use crate::task::Task;
+use event_core::{DeserializeErrorKind, FieldKey, ParseEvent, ParseEventKind, Span};
+use shape_core::{Boxed, Name, OutOfMemory, Text, Value};
+use std::alloc::Global;
+
+/// An event that names no side of a result.
+#[derive(Drop)]
+pub enum NoSide<'de> {
+    /// Another event than a key, or a key without a name.
+    Unfit(Unfit),
+    /// A key of another name.
+    Other(Text<'de>),
+}
+
+/// The key of a result, behind which what it holds has to come.
+pub fn step_side<'de>(
+    task: &Task<'_, '_>,
+    stack: &mut Vec<Frame<'de>>,
+    part: ResultPart,
+    event: ParseEvent<'de>,
+) -> Result<Moved<'de>, ReadStop<'de>>
+    ensures exact { Gives told_stop (λ m. moved_of m (open_of (terms_of task.now) stack.new.items)) result (side_step (side_in (event_of event.entry)) (terms_of task.now) (result_of part) (open_of (terms_of task.now) stack.old.items) (span_of (event_of event.entry))) }
+    ensures own { IfErr result (λ e. IsOwn (told_stop e)) }
+{
+    let span = event.span;
+    match fit_side(event) {
+        Ok(ok) => {
+            stack.push(Frame::ResultSide(part, ok))?;
+            await_next(
+                task,
+                stack.as_slice(),
+                part.sides.side(ok).shape,
+                part.depth,
+                span,
+            )
+        }
+        Err(other) => Err(no_side(task, stack.as_slice(), other, span)),
+    }
+}
+
+/// The end of a result, behind what it holds.
+#[tactic(auto, using(crate::proofs::Results::close_is))]
+pub fn step_end<'de>(
+    task: &Task<'_, '_>,
+    stack: &mut Vec<Frame<'de>>,
+    ok: bool,
+    held: Value<'de>,
+    event: ParseEvent<'de>,
+) -> Result<Moved<'de>, ReadStop<'de>>
+    ensures exact { Gives told_stop (λ m. moved_of m (open_of (terms_of task.now) stack.new.items)) result (close_step (event_of event.entry) (terms_of task.now) ok (tree_of held.entry) (open_of (terms_of task.now) stack.old.items)) }
+    ensures own { IfErr result (λ e. IsOwn (told_stop e)) }
+{
+    let span = event.span;
+    match fit_struct_end(Expected::ResultVariantEnd, event) {
+        Ok(()) => end_result(task, stack, ok, held),
+        Err(unfit) => Err(unexpected(task, stack.as_slice(), unfit, span)),
+    }
+}
+
+fn end_result<'de>(
+    task: &Task<'_, '_>,
+    stack: &mut Vec<Frame<'de>>,
+    ok: bool,
+    held: Value<'de>,
+) -> Result<Moved<'de>, ReadStop<'de>>
+    ensures exact { Gives told_stop (λ m. moved_of m (open_of (terms_of task.now) stack.new.items)) result (deliver (open_of (terms_of task.now) stack.old.items) (outcome ok (tree_of held.entry))) }
+    ensures own { IfErr result (λ e. IsOwn (told_stop e)) }
+{
+    match outcome(task.alloc, ok, held) {
+        Ok(value) => deliver(task, stack, value),
+        Err(_) => Err(ReadStop::Alloc),
+    }
+}
+
+/// A result that went well, or that didn't, and holds this value.
+fn outcome<'de>(alloc: Global, ok: bool, value: Value<'de>) -> Result<Value<'de>, OutOfMemory>
+    ensures { IfOk result (λ v. tree_of v ≡ outcome ok (tree_of value.entry)) }
+{
+    let held = Boxed::new(alloc, value)?;
+    if ok {
+        Ok(Value::Ok(held))
+    } else {
+        Ok(Value::Err(held))
+    }
+}
+
+/// Whether a result went well, by its key.
+#[tactic(auto, using(crate::proofs::Results::side_named))]
+fn fit_side<'de>(event: ParseEvent<'de>) -> Result<bool, NoSide<'de>>
+    ensures { fit (λ ok. ok) result ≡ side_in (event_of event.entry) }
+{
+    let got = event.kind_name();
+    let ParseEvent {
+        kind,
+        span: _,
+        meta: _,
+    } = event;
+    match kind {
+        ParseEventKind::FieldKey(key) => named_side(key),
+        _ => Err(NoSide::Unfit(Unfit {
+            got,
+            expected: Expected::VariantKey,
+        })),
+    }
+}
+
+fn named_side<'de>(key: FieldKey<'de>) -> Result<bool, NoSide<'de>>
+    ensures { fit (λ ok. ok) result ≡ named_side (key_name key.entry) }
+{
+    match key_text(key) {
+        Some(name) => side_of(name),
+        None => Err(NoSide::Unfit(Unfit {
+            got: "unit key",
+            expected: Expected::VariantName,
+        })),
+    }
+}
+
+fn side_of<'de>(name: Text<'de>) -> Result<bool, NoSide<'de>>
+    ensures { fit (λ ok. ok) result ≡ named_side (Some (phrase_of name.entry)) }
+{
+    if name.as_str() == "Ok" {
+        return Ok(true);
+    }
+    if name.as_str() == "Err" {
+        return Ok(false);
+    }
+    Err(NoSide::Other(name))
+}
+
+/// The fault of a key that names no side, which stands there.
+fn no_side<'e>(
+    task: &Task<'_, '_>,
+    stack: &[Frame<'_>],
+    no_side: NoSide<'_>,
+    span: Span,
+) -> ReadStop<'e>
+    ensures own { IsOwn (told_stop result) }
+    ensures is { IsFault (told_stop result) (fault_in (terms_of task.now) (open_of (terms_of task.now) stack.now) unexpected_token (span_view span)) }
+{
+    match no_side {
+        NoSide::Unfit(unfit) => unexpected(task, stack, unfit, span),
+        NoSide::Other(name) => match format!(in task.alloc; "variant '{}'", name.as_str()) {
+            Ok(got) => {
+                let kind = DeserializeErrorKind::UnexpectedToken {
+                    got: Text::Owned(Name::from_string(got)),
+                    expected: Expected::OkOrErr.text(),
+                };
+                refusal(task, stack, kind, span)
+            }
+            Err(_) => ReadStop::Alloc,
+        },
+    }
+}

@@ -1,0 +1,123 @@
+//! The items of tuples.
+ghost use Rattle.std.specs.Prelude.{◌≡◌, length, slice_get, Err, IfErr};
+ghost use Rattle.semantics.specs.Causes.{ends_sequence};
+ghost use Rattle.event_core.specs.Events.{event_of};
+ghost use Rattle.event_core.specs.Metadata.{span_view};
+ghost use Rattle.laws_machine.specs.Delivery.{Status};
+ghost use Rattle.laws_machine.specs.Steps.{too_many, element_step, keyed_in, keyed_step, tuple_step};
+ghost use Rattle.read_steps.specs.Stops.{told_stop, Gives, IsOwn};
+ghost use Rattle.read_steps.specs.Tasks.{terms_of};
+ghost use Rattle.read_steps.specs.Views.{open_of, moved_of, tuple_of};
+
+use crate::awaiting::await_next;
+use crate::begin::begin_part;
+use crate::delivery::deliver;
+use crate::fields::{field_at, fields_count};
+use crate::fill::{fill_items, structure};
+use crate::fits::{ends_sequence, fit_any_key, let_go};
+use crate::frames::{Frame, Moved, TuplePart};
+use crate::refusal::{too_many, unexpected};
+use crate::stop::ReadStop;
+use crate::task::Task;
+use event_core::{ParseEvent, Span};
+use shape_core::{Items, Value};
+
+/// One item more of a sequence, or its end.
+pub fn step_elements<'de>(
+    task: &Task<'_, '_>,
+    stack: &mut Vec<Frame<'de>>,
+    part: TuplePart<'de>,
+    before: Span,
+    event: ParseEvent<'de>,
+) -> Result<Moved<'de>, ReadStop<'de>>
+    ensures exact { Gives told_stop (λ m. moved_of m (open_of (terms_of task.now) stack.new.items)) result (element_step (ends_sequence (event_of event.entry)) (terms_of task.now) (tuple_of (terms_of task.now) part.entry) (open_of (terms_of task.now) stack.old.items) (span_view before) (event_of event.entry)) }
+    ensures own { IfErr result (λ e. IsOwn (told_stop e)) }
+{
+    if ends_sequence(&event) {
+        let span = event.span;
+        let_go(event);
+        return end_tuple(task, stack, part, span);
+    }
+    match field_at(task.shapes, part.shape, part.front.len()) {
+        Some(field) => {
+            let depth = part.depth;
+            stack.push(Frame::Elements(part))?;
+            begin_part(task, stack, field.shape, depth, before, event)
+        }
+        None => {
+            let_go(event);
+            Err(past_end(task, stack.as_slice(), &part, before))
+        }
+    }
+}
+
+/// A key of an object, behind which an item has to come, or its end.
+#[tactic(auto, using(crate::proofs::Tuples::keyed_is))]
+pub fn step_keyed<'de>(
+    task: &Task<'_, '_>,
+    stack: &mut Vec<Frame<'de>>,
+    part: TuplePart<'de>,
+    event: ParseEvent<'de>,
+) -> Result<Moved<'de>, ReadStop<'de>>
+    ensures exact { Gives told_stop (λ m. moved_of m (open_of (terms_of task.now) stack.new.items)) result (keyed_step (event_of event.entry) (terms_of task.now) (tuple_of (terms_of task.now) part.entry) (open_of (terms_of task.now) stack.old.items)) }
+    ensures own { IfErr result (λ e. IsOwn (told_stop e)) }
+{
+    let span = event.span;
+    match fit_any_key(event) {
+        Ok(true) => step_item(task, stack, part, span),
+        Ok(false) => end_tuple(task, stack, part, span),
+        Err(unfit) => Err(unexpected(task, stack.as_slice(), unfit, span)),
+    }
+}
+
+/// The item behind a key has to come.
+fn step_item<'de>(
+    task: &Task<'_, '_>,
+    stack: &mut Vec<Frame<'de>>,
+    part: TuplePart<'de>,
+    span: Span,
+) -> Result<Moved<'de>, ReadStop<'de>>
+    ensures exact { Gives told_stop (λ m. moved_of m (open_of (terms_of task.now) stack.new.items)) result (keyed_in (slice_get (tuple_of (terms_of task.now) part.entry).elements.fields (length (tuple_of (terms_of task.now) part.entry).front)) (terms_of task.now) (tuple_of (terms_of task.now) part.entry) (open_of (terms_of task.now) stack.old.items) (span_view span)) }
+    ensures own { IfErr result (λ e. IsOwn (told_stop e)) }
+{
+    match field_at(task.shapes, part.shape, part.front.len()) {
+        Some(field) => {
+            let depth = part.depth;
+            stack.push(Frame::KeyedItem(part))?;
+            await_next(task, stack.as_slice(), field.shape, depth, span)
+        }
+        None => Err(past_end(task, stack.as_slice(), &part, span)),
+    }
+}
+
+/// A tuple has no more items.
+pub fn past_end<'e>(
+    task: &Task<'_, '_>,
+    stack: &[Frame<'_>],
+    part: &TuplePart<'_>,
+    span: Span,
+) -> ReadStop<'e>
+    ensures is { Gives {Y = Status} told_stop (λ s. s) (Err result) (too_many (terms_of task.now) (tuple_of (terms_of task.now) part.now) (open_of (terms_of task.now) stack.now) (span_view span)) }
+    ensures own { IsOwn (told_stop result) }
+{
+    let count = fields_count(task.shapes, part.shape);
+    too_many(task, stack, part.shape, count, span)
+}
+
+/// The end of a tuple, where each of its items has a value.
+fn end_tuple<'de>(
+    task: &Task<'_, '_>,
+    stack: &mut Vec<Frame<'de>>,
+    part: TuplePart<'de>,
+    span: Span,
+) -> Result<Moved<'de>, ReadStop<'de>>
+    ensures exact { Gives told_stop (λ m. moved_of m (open_of (terms_of task.now) stack.new.items)) result (tuple_step (terms_of task.now) (tuple_of (terms_of task.now) part.entry) (open_of (terms_of task.now) stack.old.items) (span_view span)) }
+    ensures own { IfErr result (λ e. IsOwn (told_stop e)) }
+{
+    let shape = part.shape;
+    let mut items = part.front;
+    match fill_items(task, stack.as_slice(), shape, &mut items, span) {
+        Ok(()) => deliver(task, stack, structure(Items::from_vec(items))),
+        Err(stop) => Err(stop),
+    }
+}
