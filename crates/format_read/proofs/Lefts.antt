@@ -2,7 +2,8 @@
 use Rattle.std.proofs.Common.{◌≡◌, inl, inr, List, ◌++◌, [], Option, Some, None, refl, sym, ap, ◌∙◌, append_assoc, arith}
 use Rattle.semantics.specs.Events.{Event}
 use Rattle.semantics.specs.Faults.{Fault}
-use Rattle.format_read.specs.Seats.{Seat, IsLeft, HasSource, IsOwn}
+use Rattle.read_steps.specs.Stops.{IsOwn}
+use Rattle.format_read.specs.Seats.{Seat, IsLeft, HasSource}
 
 pub left_same : (a : Seat) → IsLeft a a
 left_same a = record { taken = []; cut = refl; ending = refl; left = omega arith; faults = omega arith; place = refl }

@@ -19,8 +19,6 @@ use Rattle.event_core.specs.declared.span.Span.{Span as DeclaredSpan}
 use Rattle.format_traits.specs.Parsing.{Parsing, before}
 use Rattle.laws_reading.specs.Input.{Input, ◌>>=◌, feed, taken_at, peeked_of}
 use Rattle.format_read.specs.Seats.{Owner, fed, coming_by, told_or_nothing, seat_of, IsLeft}
-use Rattle.format_read.specs.Leaves.{Wanted, is_wanted, passed_at, passed_of, with_true}
-use Rattle.format_read.specs.Taking.{looked_at, looked_of}
 use Rattle.format_read.proofs.Seats.{ahead_of, left_by, took_ahead}
 
 -- the first of those that were read ahead was taken
@@ -69,31 +67,3 @@ taken_exact tells e p owner q s last told room took it_tells = by_room q.capacit
     by_room zero m some same = absurd (omega (arith, some))
     by_room (suc n) zero some same = absurd cc
     by_room (suc n) (suc m) some same = told_taken [] (ahead_of s p) (ahead_of q p) (took_ahead e p q s took) (still_told (map event_of s.ahead) p.coming (told it_tells))
-
-unwrapped : (s t : Bool) (a b : Input) → Result (Bool × Input) Fault → Bool × Input
-unwrapped s t a b (Ok x) = x
-unwrapped s t a b (Err e) = (t, b)
-
-first : (s t : Bool) (a b : Input) → ◌≡◌ {A = Result (Bool × Input) Fault} (Ok (s, a)) (Ok (t, b)) → s ≡ t
-unfolding unwrapped
-first s t a b is = ap (λ (r : Result (Bool × Input) Fault). (unwrapped s t a b r).0) is
-
-second : (s t : Bool) (a b : Input) → ◌≡◌ {A = Result (Bool × Input) Fault} (Ok (s, a)) (Ok (t, b)) → a ≡ b
-unfolding unwrapped
-second s t a b is = ap (λ (r : Result (Bool × Input) Fault). (unwrapped s t a b r).1) is
-
--- the event that was seen was taken
-pub seen_taken : (tells : Bool) (w : Wanted) (path : List Step) (a b c : Input) (e : Event) → (IsTrue tells → looked_at (is_wanted w) a ≡ Ok (true, b)) → (IsTrue tells → taken_at [] b ≡ Ok (e, c)) → IsTrue tells → passed_at w path a ≡ Ok (true, c)
-unfolding looked_at passed_at
-seen_taken tells w path a b c e looked taken it_tells = by_events a.events (looked it_tells)
-  where
-    by_same : (x : Input) → x ≡ b → (taken_at path x >>= with_true) ≡ Ok (true, c)
-    by_same x is = ap (λ (i : Input). taken_at path i >>= with_true) is ∙ ap (λ (r : Result (Event × Input) Fault). r >>= with_true) (taken it_tells)
-
-    by_test : (t : Bool) (r : Result (Bool × Input) Fault) → r ≡ Ok (t, a) → r ≡ Ok (true, b) → passed_of t path a ≡ Ok (true, c)
-    by_test true r here is = by_same a (second true true a b (sym here ∙ is))
-    by_test false r here is = absurd (let bad : false ≡ true = first false true a b (sym here ∙ is) in cc)
-
-    by_events : (es : List Event) → looked_of (is_wanted w) es a ≡ Ok (true, b) → (peeked_of es a >>= λ x. passed_of (is_wanted w x.0) path x.1) ≡ Ok (true, c)
-    by_events [] is = absurd cc
-    by_events (x ∷ xs) is = by_test (is_wanted w x) (Ok (is_wanted w x, a)) refl is

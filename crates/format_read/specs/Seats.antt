@@ -70,8 +70,3 @@ pub record IsLeft (old new : Seat) : Type 0 where
 abbrev pub HasSource : Option Fault → Seat → Seat → Type 0
 HasSource None old new = Unit {0}
 HasSource (Some f) old new = (f.path ≢ None) ⊎ ((f.kind ≡ unexpected_eof) × (old.input.ending ≡ ends)) ⊎ Rose old.faults new.faults
-
--- a fault of the value, which has a path, or want of memory
-abbrev pub IsOwn : Option Fault → Type 0
-IsOwn None = Unit {0}
-IsOwn (Some f) = f.path ≢ None

@@ -1,8 +1,7 @@
--- Taking events one by one, and looking at the next one.
-use Rattle.std.specs.Prelude.{◌≡◌, ◌<◌, List, [], ◌∷◌, length, Option, Some, None, Result, Ok, Err, Bool, false, cond}
-use Rattle.semantics.specs.Events.{Event, span_of}
+-- Taking events one by one.
+use Rattle.std.specs.Prelude.{◌≡◌, ◌<◌, [], ◌∷◌, length, Option, Some, None, Result, Ok, Err, cond}
+use Rattle.semantics.specs.Events.{span_of}
 use Rattle.semantics.specs.Faults.{Fault, ends, stops}
-use Rattle.semantics.specs.Recoding.{ended_at}
 use Rattle.event_core.specs.Building.{is_memory}
 use Rattle.event_core.specs.Events.{event_of}
 use Rattle.event_core.specs.Faults.{fault_of, parse_fault}
@@ -48,16 +47,3 @@ Takes old new (Err e) = Faulted (told_parse e) old new
 pub record HasNext (q : Queued) : Type 0 where
   pub capacity : 0 < q.capacity
   pub ahead : 0 < length q.ahead
-
-abbrev pub looked_of : (Event → Bool) → List Event → Input → Result (Bool × Input) Fault
-looked_of p [] input = Err (ended_at input.ending input.last)
-looked_of p (e ∷ rest) input = Ok (p e, input)
-
--- whether the next event is such a one
-unfoldable pub looked_at : (Event → Bool) → Input → Result (Bool × Input) Fault
-looked_at p input = looked_of p input.events input
-
--- the same of the events that were read ahead
-abbrev pub first_is : (Event → Bool) → List ParseEvent → Bool
-first_is p [] = false
-first_is p (e ∷ es) = p (event_of e)

@@ -4,13 +4,9 @@ ghost use Rattle.event_core.specs.Queued.{empty_queue};
 
 mod ahead;
 mod batch;
-mod look;
 mod next;
-mod node;
 mod reading;
-mod scalar;
-mod skip;
-mod source;
+mod turn;
 
 use event_core::{EventQueue, Span};
 use plan_core::TypePlans;

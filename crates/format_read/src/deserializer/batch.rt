@@ -3,9 +3,9 @@ ghost use Rattle.std.specs.Prelude.{◌≡◌, ◌⊎◌, ◌≤◌, ◌<◌, []
 ghost use Rattle.event_core.specs.Events.{event_of};
 ghost use Rattle.format_traits.specs.Parsing.{Gave, Failed, EndAfter, Met, IsMemory, HasCause};
 
-use crate::stop::is_memory;
 use event_core::{ParseError, ParseEvent};
 use format_traits::FormatParser;
+use read_steps::is_memory;
 use std::alloc::Global;
 use std::collections::VecDeque;
 

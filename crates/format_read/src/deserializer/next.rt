@@ -1,22 +1,19 @@
 //! Takes events one by one.
-ghost use Rattle.std.specs.Prelude.{◌≡◌, ◌<◌, [], Ok, length, IfOk, IfErr, OnOk, IsNone, IsSome, IsTrue};
+ghost use Rattle.std.specs.Prelude.{◌≡◌, ◌<◌, [], ◌∷◌, Ok, IfOk, IfErr, OnOk, IsNone, IsSome, IsTrue};
 ghost use Rattle.event_core.specs.Events.{event_of};
 ghost use Rattle.format_read.specs.Deserializers.{seat_in};
 ghost use Rattle.format_read.specs.Deserializing.{Finishes};
 ghost use Rattle.format_read.specs.Seats.{IsLeft, HasSource};
-ghost use Rattle.format_read.specs.Stops.{told_stop, Gives, IsFault};
+ghost use Rattle.read_steps.specs.Stops.{told_stop};
 ghost use Rattle.format_read.specs.Taking.{told_error, told_parse, IsToldAs, HasNext, NothingComes, Takes};
 ghost use Rattle.laws_reading.specs.Input.{taken_at};
-ghost use Rattle.semantics.specs.Recoding.{ended_at};
-ghost use Rattle.semantics.specs.Faults.{ends};
 
 use crate::deserializer::FormatDeserializer;
 use crate::deserializer::ahead::no_memory;
-use crate::expected::Expected;
-use crate::stop::{ReadStop, is_memory};
 use crate::uncounted::take_ahead;
-use event_core::{DeserializeError, DeserializeErrorKind, ParseError, ParseEvent};
+use event_core::{DeserializeError, ParseError, ParseEvent};
 use format_traits::FormatParser;
+use read_steps::{ReadStop, is_memory};
 use shape_core::OutOfMemory;
 use std::alloc::Global;
 
@@ -41,34 +38,6 @@ impl<'parser, 'input, 's, 'v, P: FormatParser<'input>, const BORROW: u8> FormatD
         }
     }
 
-    /// Takes the next event, which has to come. `end` is what is expected, where none does.
-    pub(crate) fn take_event(
-        &mut self,
-        end: Expected,
-    ) -> Result<ParseEvent<'input>, ReadStop<'input>>
-        ensures exact { IsTrue P.tells → Gives told_stop (λ e. (event_of e, (seat_in P.parsing self.new).input)) result (taken_at [] (seat_in P.parsing self.old).input) }
-        ensures left { IsLeft (seat_in P.parsing self.old) (seat_in P.parsing self.new) }
-        ensures fewer { OnOk result ((seat_in P.parsing self.new).left < (seat_in P.parsing self.old).left) }
-        ensures falls { IsTrue P.tells → OnOk result (length (seat_in P.parsing self.new).input.events < length (seat_in P.parsing self.old).input.events) }
-        ensures cause { IfErr result (λ e. HasSource (told_stop e) (seat_in P.parsing self.old) (seat_in P.parsing self.new)) }
-    {
-        match self.next_event() {
-            Ok(Some(event)) => Ok(event),
-            Ok(None) => Err(self.ended(end)),
-            Err(error) => Err(stop_of(self.alloc, error)),
-        }
-    }
-
-    /// The end of the events, where one is expected.
-    pub(crate) fn ended(&self, end: Expected) -> ReadStop<'input>
-        ensures { IsFault (told_stop result) (ended_at ends (seat_in P.parsing self.now).input.last) }
-    {
-        let kind = DeserializeErrorKind::UnexpectedEof {
-            expected: end.text(),
-        };
-        ReadStop::fault(self.alloc, kind.with_span(self.last))
-    }
-
     /// Takes the next event, if one comes.
     fn next_event(&mut self) -> Result<Option<ParseEvent<'input>>, ParseError<'input>>
         ensures exact { IsTrue P.tells → Takes (seat_in P.parsing self.old).input (seat_in P.parsing self.new).input result }
@@ -88,9 +57,11 @@ impl<'parser, 'input, 's, 'v, P: FormatParser<'input>, const BORROW: u8> FormatD
     }
 
     /// Takes the first event that was read ahead.
-    fn pull(&mut self) -> Result<ParseEvent<'input>, OutOfMemory>
+    pub(crate) fn pull(&mut self) -> Result<ParseEvent<'input>, OutOfMemory>
         requires { HasNext self.old.queue }
         ensures exact { IsTrue P.tells → IfOk result (λ e. taken_at [] (seat_in P.parsing self.old).input ≡ Ok (event_of e, (seat_in P.parsing self.new).input)) }
+        ensures first { IfOk result (λ e. self.old.queue.ahead ≡ e ∷ self.new.queue.ahead) }
+        ensures last { IfOk result (λ e. self.new.last ≡ e.span) }
         ensures left { IsLeft (seat_in P.parsing self.old) (seat_in P.parsing self.new) }
         ensures fewer { OnOk result ((seat_in P.parsing self.new).left < (seat_in P.parsing self.old).left) }
     {

@@ -4,22 +4,21 @@ ghost use Rattle.semantics.specs.Reading.{from_events};
 ghost use Rattle.event_core.specs.Faults.{fault_of};
 ghost use Rattle.shape_core.specs.Shapes.{registry};
 ghost use Rattle.shape_core.specs.Trees.{tree_of};
+ghost use Rattle.laws_machine.specs.Machine.{machine};
+ghost use Rattle.read_steps.specs.Stops.{told_stop, Gives};
+ghost use Rattle.read_steps.specs.Tasks.{terms_of};
 ghost use Rattle.format_read.specs.Deserializers.{seat_in};
 ghost use Rattle.format_read.specs.Deserializing.{setting, IsRead, Answers, IsCaused, IsMemory, IsStopError};
 ghost use Rattle.format_read.specs.Seats.{IsLeft, HasSource};
-ghost use Rattle.format_read.specs.Sources.{terms_by};
-ghost use Rattle.format_read.specs.Stops.{told_stop, Gives};
-ghost use Rattle.format_read.specs.Values.{reading_by};
 
 use crate::deserializer::FormatDeserializer;
-use crate::stop::ReadStop;
-use crate::task::Task;
-use crate::trail::Trail;
-use crate::value::read_value;
+use crate::deserializer::turn::Reading;
 use event_core::{DeserializeError, DeserializeErrorKind};
 use format_traits::FormatParser;
 use laws::reads_typed;
+use laws_machine::machine_reads_values;
 use laws_reading::{reading_fails, reading_means};
+use read_steps::{ReadStop, Task, await_value};
 use shape_core::{ShapeId, Value};
 
 impl<'parser, 'input, 's, 'v, P: FormatParser<'input>, const BORROW: u8> FormatDeserializer<
@@ -33,7 +32,9 @@ impl<'parser, 'input, 's, 'v, P: FormatParser<'input>, const BORROW: u8> FormatD
     /// Reads the next value, of the shape `root`, and takes just its events.
     ///
     /// Keys of structs may stand in any order, and unknown ones are passed over. Values may nest as deep as the
-    /// deserializer was told. Whatever is refused has the span of the last event that was taken, and a path.
+    /// deserializer was told: what is open of them stands on the heap. A value that is refused is so with a path, and with
+    /// the span of the last event that was taken. The end of the events has that span and no path, a parser's fault its
+    /// own span and no path, and want of memory neither.
     ///
     /// Clauses that speak of events hold over parsers that tell theirs. Over others it is safe and returns.
     pub fn deserialize_value(
@@ -60,32 +61,36 @@ impl<'parser, 'input, 's, 'v, P: FormatParser<'input>, const BORROW: u8> FormatD
         reading_means();
         reading_fails();
         reads_typed();
+        machine_reads_values();
         let plans = self.plans;
         let task = Task {
             alloc: self.alloc,
             shapes: plans.shapes(),
             limit: self.depth,
+            borrow: BORROW == 1,
         };
         task.shapes.rules();
-        let depth = self.depth;
-        match self.read_root(&task, root, depth) {
+        match self.read(&task, root) {
             Ok(value) => Ok(value),
             Err(stop) => Err(error_of(stop)),
         }
     }
 
-    /// Reads a value from the deserializer's own events.
-    fn read_root(
+    /// Reads a value from event to event.
+    #[tactic(auto, using(crate::proofs::Turns::begins, crate::proofs::Turns::begins_not, crate::proofs::Turns::goes_on, crate::proofs::Turns::completes, crate::proofs::Turns::fails, crate::proofs::Lefts::left_same, crate::proofs::Lefts::left_later, crate::proofs::Lefts::source_later, crate::proofs::Lefts::source_own))]
+    fn read(
         &mut self,
         task: &Task<'_, '_>,
         root: ShapeId,
-        depth: usize,
     ) -> Result<Value<'input>, ReadStop<'input>>
-        ensures exact { IsTrue P.tells → Gives told_stop (λ v. (tree_of v, (seat_in P.parsing self.new).input)) result (reading_by (terms_by (nat_eq BORROW 1) task.now) depth root.0 from_events [] (seat_in P.parsing self.old).input) }
+        ensures exact { IsTrue P.tells → Gives told_stop (λ v. (tree_of v, (seat_in P.parsing self.new).input)) result (machine (terms_of task.now) self.old.depth root.0 from_events (seat_in P.parsing self.old).input) }
         ensures left { IsLeft (seat_in P.parsing self.old) (seat_in P.parsing self.new) }
         ensures cause { IfErr result (λ e. HasSource (told_stop e) (seat_in P.parsing self.old) (seat_in P.parsing self.new)) }
     {
-        read_value(task, self, root, depth, &Trail::Root)
+        let mut reading = Reading::new(self.alloc);
+        await_value(task, &mut reading.frames, root, self.depth, self.last)?;
+        'events: while self.turn(task, &mut reading)? {}
+        Ok(reading.finish())
     }
 }
 

@@ -1,0 +1,153 @@
+-- The loop over the events, in the words of the machine.
+use Rattle.std.proofs.Common.{◌≡◌, ◌⊎◌, inl, inr, ◌<◌, ℕ, zero, suc, List, [], ◌∷◌, length, slice_get, map, Bool, true, false, cond, Option, Some, None, Result, Ok, Err, refl, sym, ◌∙◌, ap, subst, arith}
+use Rattle.std.specs.Prelude.{IsTrue, IsSome}
+use Rattle.std.specs.Option.{option_copied}
+use Rattle.semantics.specs.Trees.{Tree}
+use Rattle.semantics.specs.Events.{Span, Event, span_of}
+use Rattle.semantics.specs.Faults.{bug, Fault, Ending, ends, stops, Coming}
+use Rattle.semantics.specs.Recoding.{ended_at}
+use Rattle.semantics.specs.Reading.{from_events}
+use Rattle.shape_core.specs.Trees.{tree_of}
+use Rattle.shape_core.specs.declared.value.Value.{Value}
+use Rattle.event_core.specs.Building.{is_memory}
+use Rattle.event_core.specs.Events.{event_of}
+use Rattle.event_core.specs.Faults.{parse_fault}
+use Rattle.event_core.specs.Metadata.{span_view}
+use Rattle.event_core.specs.Queued.{Queued}
+use Rattle.event_core.specs.declared.error.ParseError.{ParseError}
+use Rattle.event_core.specs.declared.event.ParseEvent.{ParseEvent}
+use Rattle.event_core.specs.declared.span.Span.{Span as DeclaredSpan}
+use Rattle.format_traits.specs.Parsing.{Parsing, before}
+use Rattle.laws_reading.specs.Input.{Input, feed, ◌>>=◌, taken_at}
+use Rattle.laws_reading.specs.Values.{Terms, reading}
+use Rattle.laws_machine.specs.Frames.{Frames}
+use Rattle.laws_machine.specs.Delivery.{Status, going, complete}
+use Rattle.laws_machine.specs.Begins.{await}
+use Rattle.laws_machine.specs.Steps.{step_at}
+use Rattle.laws_machine.specs.Machine.{run, on, machine}
+use Rattle.laws_machine.specs.Leaves.{leaves, FaultsStand}
+use Rattle.laws_machine.specs.Laws.{MachineReads}
+use Rattle.read_steps.specs.Stops.{IsFault, Fails, Gives}
+use Rattle.format_read.specs.Seats.{Owner, fed, coming_by, told_or_nothing, seat_of}
+use Rattle.format_read.specs.Taking.{told_parse, IsToldAs, Faulted, HasNext, NothingComes}
+use Rattle.format_read.specs.Turning.{status_by, with_input, turn_at, IsAdmitted, StandsAt}
+use Rattle.format_read.proofs.Seats.{ahead_of}
+use Rattle.format_read.proofs.Taken.{stands}
+
+stepped : (t : Terms) (r : Result Status Fault) (rest : Input) → (r >>= on t rest) ≡ ((r >>= with_input rest) >>= λ x. on t x.1 x.0)
+stepped t (Ok s) rest = refl
+stepped t (Err f) rest = refl
+
+run_turn : (t : Terms) (fs : Frames) (es : List Event) (ending : Ending) (last : Span) → run t fs (feed es ending last) ≡ (turn_at t fs (feed es ending last) >>= λ x. on t x.1 x.0)
+run_turn t fs [] ending last = refl
+run_turn t fs (e ∷ es) ending last = stepped t (step_at t fs last e) (feed es ending (span_of e))
+
+-- the loop begins
+pub begins : (t : Terms) (n s : ℕ) (fs : Frames) (input : Input) → await t n s from_events [] input.last ≡ Ok (going fs) → run t fs input ≡ machine t n s from_events input
+begins t n s fs input one = ap (λ r. r >>= on t input) (sym one)
+
+pub begins_not : (o : Option Fault) (t : Terms) (n s : ℕ) (input : Input) → Fails {Y = Status} o (await t n s from_events [] input.last) → Fails {Y = Tree × Input} o (machine t n s from_events input)
+begins_not None t n s input h = tt
+begins_not (Some f) t n s input h = ap (λ r. r >>= on t input) h
+
+pub goes_on : (t : Terms) (fs : Frames) (input : Input) (s : Status) (rest : Input) (total : Result (Tree × Input) Fault) → run t fs input ≡ total → turn_at t fs input ≡ Ok (s, rest) → on t rest s ≡ total
+goes_on t fs input s rest total told one = ap (λ r. r >>= λ (x : Status × Input). on t x.1 x.0) (sym one) ∙ sym (run_turn t fs input.events input.ending input.last) ∙ told
+
+pub fails : (o : Option Fault) (t : Terms) (fs : Frames) (input : Input) (total : Result (Tree × Input) Fault) → run t fs input ≡ total → Fails {Y = Status × Input} o (turn_at t fs input) → Fails o total
+fails None t fs input total told h = tt
+fails (Some f) t fs input total told h = sym told ∙ run_turn t fs input.events input.ending input.last ∙ ap (λ r. r >>= λ (x : Status × Input). on t x.1 x.0) h
+
+pub completes : (t : Terms) (fs after : Frames) (input : Input) (o : Option Value) (v : Value) (rest : Input) (total : Result (Tree × Input) Fault)
+    → run t fs input ≡ total → turn_at t fs input ≡ Ok (status_by after o, rest) → o ≡ Some v → total ≡ Ok (tree_of v, rest)
+completes t fs after input o v rest total told one is = sym (goes_on t fs input (status_by after o) rest total told one) ∙ rw is refl
+
+-- an event was taken, and the machine goes on
+pub turn_goes : (t : Terms) (fs : Frames) (input rest : Input) (e : Event) (s : Status) → taken_at [] input ≡ Ok (e, rest) → step_at t fs input.last e ≡ Ok s → turn_at t fs input ≡ Ok (s, rest)
+turn_goes t fs input rest e s one two = rw (one, two) refl
+
+-- an event was taken, and refused
+pub turn_fails : (o : Option Fault) (t : Terms) (fs : Frames) (input rest : Input) (e : Event) → taken_at [] input ≡ Ok (e, rest) → Fails {Y = Status} o (step_at t fs input.last e) → Fails {Y = Status × Input} o (turn_at t fs input)
+turn_fails None t fs input rest e one h = tt
+turn_fails (Some f) t fs input rest e one h = rw (one, h) refl
+
+-- no event comes
+pub ended_fails : (o : Option Fault) (t : Terms) (fs : Frames) (input now : Input) → NothingComes input → now ≡ input → IsFault o (ended_at ends now.last) → Fails {Y = Status × Input} o (turn_at t fs input)
+ended_fails None t fs input now none same h = tt
+ended_fails (Some f) t fs input now none same h = by_events input.events input.ending none.events none.ending (h ∙ ap (λ (i : Input). ended_at ends i.last) same)
+  where
+    by_events : (es : List Event) (ending : Ending) → es ≡ [] → ending ≡ ends → f ≡ ended_at ends input.last → turn_at t fs (feed es ending input.last) ≡ Err f
+    by_events es ending nothing is one = rw (nothing, is, one) refl
+
+-- the parser's fault comes
+pub fault_fails : (o p : Option Fault) (t : Terms) (fs : Frames) (input now : Input) → IsToldAs o p → Faulted p input now → Fails {Y = Status × Input} o (turn_at t fs input)
+fault_fails None p t fs input now told h = tt
+fault_fails (Some f) None t fs input now told h = absurd cc
+fault_fails (Some f) (Some g) t fs input now told h =
+    let same : g ≡ f = cc in by_events input.events input.ending h.0 (h.1 ∙ ap stops same)
+  where
+    by_events : (es : List Event) (ending : Ending) → es ≡ [] → ending ≡ stops f → turn_at t fs (feed es ending input.last) ≡ Err f
+    by_events es ending nothing is = rw (nothing, is) refl
+
+-- the same where the input is the same
+pub fails_alike : (o : Option Fault) (t : Terms) (fs : Frames) (input now : Input) → now ≡ input → Fails {Y = Status × Input} o (turn_at t fs now) → Fails {Y = Status × Input} o (turn_at t fs input)
+fails_alike o t fs input now same h = subst (λ (i : Input). Fails {Y = Status × Input} o (turn_at t fs i)) same h
+
+pub gives_alike : (t : Terms) (fs : Frames) (input now rest : Input) (s : Status) → now ≡ input → turn_at t fs now ≡ Ok (s, rest) → turn_at t fs input ≡ Ok (s, rest)
+gives_alike t fs input now rest s same h = subst (λ (i : Input). turn_at t fs i ≡ Ok (s, rest)) same h
+
+-- Where faults stand.
+pub ended_stands : (o : Option Fault) (last span : Span) → IsFault o (ended_at ends last) → StandsAt o span
+ended_stands None last span h = tt
+ended_stands (Some f) last span h = inl (ap (λ (g : Fault). g.path) h)
+
+pub parse_stands : (e : ParseError) (o : Option Fault) (span : Span) → IsToldAs o (told_parse e) → StandsAt o span
+parse_stands e o span told = by_test (is_memory e.kind) o told
+  where
+    by_test : (b : Bool) (o : Option Fault) → IsToldAs o (cond b None (Some (parse_fault e))) → StandsAt o span
+    by_test b None told = tt
+    by_test true (Some f) told = absurd cc
+    by_test false (Some f) told = let same : parse_fault e ≡ f = cc in inl (sym (ap (λ (g : Fault). g.path) same))
+
+step_stands : FaultsStand → (o : Option Fault) (t : Terms) (fs : Frames) (last span : Span) (e : Event) → Fails {Y = Status} o (step_at t fs last e) → cond (leaves t fs e) last (span_of e) ≡ span → StandsAt o span
+step_stands stand None t fs last span e h is = tt
+step_stands stand (Some f) t fs last span e h is = inr (subst (λ (x : Span). (f.kind ≡ bug) ⊎ (f.span ≡ Some x)) is (stand t fs last e f h))
+
+-- the event was left
+pub left_stands : FaultsStand → (o : Option Fault) (t : Terms) (fs : Frames) (last : Span) (e : Event) → leaves t fs e ≡ true → Fails {Y = Status} o (step_at t fs last e) → StandsAt o last
+left_stands stand o t fs last e is h = step_stands stand o t fs last last e h (ap (λ (b : Bool). cond b last (span_of e)) is)
+
+-- the event was taken
+pub taken_stands : FaultsStand → (o : Option Fault) (t : Terms) (fs : Frames) (last : Span) (e : ParseEvent) (held rest : List ParseEvent) (now : DeclaredSpan)
+    → held ≡ e ∷ rest → IsAdmitted t fs held → now ≡ e.span → Fails {Y = Status} o (step_at t fs last (event_of e)) → StandsAt o (span_view now)
+taken_stands stand o t fs last e held rest now is admitted at h =
+    step_stands stand o t fs last (span_view now) (event_of e) h (ap (λ (b : Bool). cond b last (span_of (event_of e))) (subst (IsAdmitted t fs) is admitted) ∙ stands e ∙ sym (ap span_view at))
+
+-- Events that are at the head of the queue.
+pub has_first : (held : List ParseEvent) → None ≡ slice_get held 0 → 0 < length held → ⊥
+has_first [] is some = omega (arith, some)
+has_first (x ∷ xs) is some = absurd cc
+
+pub admitted_at : (t : Terms) (fs : Frames) (held : List ParseEvent) (e : ParseEvent) → Some e ≡ slice_get held 0 → leaves t fs (event_of e) ≡ false → IsAdmitted t fs held
+admitted_at t fs [] e is taken = tt
+admitted_at t fs (x ∷ xs) e is taken = let same : e ≡ x = cc in ap (λ (y : ParseEvent). leaves t fs (event_of y)) (sym same) ∙ taken
+
+-- what is left at the head of the queue is refused at the head of the input
+pub left_fails : (tells : Bool) (o : Option Fault) (t : Terms) (fs : Frames) (e : ParseEvent) (p : Parsing) (owner : Owner) (q : Queued) (last : DeclaredSpan) → (IsTrue tells → IsSome p.coming) → 0 < q.capacity → Some e ≡ slice_get q.ahead 0
+    → Fails {Y = Status} o (step_at t fs (span_view last) (event_of e)) → IsTrue tells → Fails {Y = Status × Input} o (turn_at t fs (seat_of p owner q last).input)
+left_fails tells o t fs e p owner q last told room is h it_tells = by_room q.capacity room
+  where
+    by_fault : (o : Option Fault) (c : Coming) → Fails {Y = Status} o (step_at t fs (span_view last) (event_of e)) → Fails {Y = Status × Input} o (turn_at t fs (fed (record { events = event_of e ∷ c.events; ending = c.ending }) (span_view last)))
+    by_fault None c h = tt
+    by_fault (Some f) c h = ap (λ r. r >>= with_input (feed c.events c.ending (span_of (event_of e)))) h
+
+    by_held : (held : List ParseEvent) (c : Option Coming) → Some e ≡ slice_get held 0 → IsSome c → Fails {Y = Status × Input} o (turn_at t fs (fed (told_or_nothing (before (map event_of held) c)) (span_view last)))
+    by_held [] c is some = absurd cc
+    by_held (x ∷ xs) None is some = absurd cc
+    by_held (x ∷ xs) (Some c) is some =
+        let same : e ≡ x = cc in
+        subst (λ (y : ParseEvent). Fails {Y = Status × Input} o (turn_at t fs (fed (told_or_nothing (before (event_of y ∷ map event_of xs) (Some c))) (span_view last)))) same
+        (by_fault o (told_or_nothing (before (map event_of xs) (Some c))) h)
+
+    by_room : (n : ℕ) → 0 < n → Fails {Y = Status × Input} o (turn_at t fs (fed (coming_by n p q) (span_view last)))
+    by_room zero some = absurd (omega (arith, some))
+    by_room (suc n) some = by_held q.ahead p.coming is (told it_tells)
