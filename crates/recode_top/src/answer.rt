@@ -68,7 +68,11 @@ fn recoded(
 {
     match recode(alloc, shapes, root, capacity, depth, tape) {
         Ok(out) => Ok(out),
-        Err(error) => Err(tape_stop(alloc, &error)),
+        Err(error) => {
+            let stop = tape_stop(alloc, &error);
+            drop(error);
+            Err(stop)
+        }
     }
 }
 

@@ -63,7 +63,7 @@ fn read_alone<'a>(
     };
     match reader.finish_input() {
         Ok(None) => Ok(value),
-        Ok(Some(event)) => Err(trailing(&event)),
+        Ok(Some(event)) => Err(trailing(event)),
         Err(error) => Err(refused(error)),
     }
 }
@@ -87,11 +87,11 @@ fn is_memory(kind: &DeserializeErrorKind<'_>) -> bool
 }
 
 /// What is answered where this event stands behind the value.
-fn trailing<'e>(event: &ParseEvent<'_>) -> RecodeError<'e>
-    ensures { TrailsAs (event_of event.now) result }
+fn trailing<'e>(event: ParseEvent<'_>) -> RecodeError<'e>
+    ensures { TrailsAs (event_of event.entry) result }
 {
-    RecodeError::Trailing {
-        kind: event.kind.kind_name(),
-        span: event.span,
-    }
+    let kind = event.kind.kind_name();
+    let span = event.span;
+    drop(event);
+    RecodeError::Trailing { kind, span }
 }
