@@ -13,14 +13,13 @@ pub fn first_kind<'de>(rest: &'de [u8]) -> Option<ParseEventKind<'de>>
     requires { 0 < length rest.now }
     ensures { (n : Note) → option_map (λ kind. event_from kind n) result ≡ event_at (slice_index rest.now 0) n }
 {
-    let byte = rest[0];
-    match byte {
+    match rest[0] {
         b'[' => Some(ParseEventKind::SequenceStart(ContainerKind::Array)),
         b']' => Some(ParseEventKind::SequenceEnd),
         b'{' => Some(ParseEventKind::StructStart(ContainerKind::Object)),
         b'}' => Some(ParseEventKind::StructEnd),
         b'-' => Some(ParseEventKind::Scalar(ScalarValue::Null)),
-        b'0'..=b'9' => Some(ParseEventKind::Scalar(ScalarValue::U64((byte - b'0') as u64))),
+        byte @ b'0'..=b'9' => Some(ParseEventKind::Scalar(ScalarValue::U64((byte - b'0') as u64))),
         b'a'..=b'z' => {
             let key = Text::Borrowed(first_letter(rest));
             Some(ParseEventKind::FieldKey(FieldKey::Name(key)))

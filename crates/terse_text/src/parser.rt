@@ -62,7 +62,11 @@ impl<'de> TerseParser<'de> {
             Some(kind) => Ok(Some(ParseEvent::new(kind, span))),
             None => {
                 self.faults = self.faults.saturating_add(1);
-                Err(no_event(self.rest[0], span))
+                // A byte past ASCII is shown as the character of its number.
+                let ch = char::from(self.rest[0]);
+                let expected = "a bracket, a letter, a digit or a minus";
+                let kind = DeserializeErrorKind::UnexpectedChar { ch, expected };
+                Err(ParseError::new(span, kind))
             }
         }
     }
@@ -76,34 +80,17 @@ impl<'de> TerseParser<'de> {
         ensures fault { IfErr result (λ e. IsMemory e ⊎ Met [] e (parsing_of self.old) (parsing_of self.new)) }
         ensures cause { HasCause self.old.faults self.new.faults result }
     {
-        match self.look()? {
-            Some(event) => {
-                if buf.push_back(event).is_err() {
-                    return Err(no_memory());
-                }
-                self.rest = self.rest.split_at(1).1;
-                Ok(true)
-            }
-            None => Ok(false),
+        let Some(event) = self.look()? else {
+            return Ok(false);
+        };
+        if buf.push_back(event).is_err() {
+            let operation = "buffer of events";
+            let kind = DeserializeErrorKind::Alloc { operation };
+            return Err(ParseError::new(Span::default(), kind));
         }
+        self.rest = self.rest.split_at(1).1;
+        Ok(true)
     }
-}
-
-/// The fault of a byte that no event has. One past ASCII is shown as the character of its number.
-fn no_event<'e>(byte: u8, span: Span) -> ParseError<'e>
-    ensures { parse_fault result ≡ record { kind = unexpected_char byte; span = Some (span_view span); path = None } }
-{
-    let ch = char::from(byte);
-    let expected = "a bracket, a letter, a digit or a minus";
-    ParseError::new(span, DeserializeErrorKind::UnexpectedChar { ch, expected })
-}
-
-/// No memory was there for one more event.
-fn no_memory<'e>() -> ParseError<'e>
-    ensures { IsMemory result }
-{
-    let operation = "buffer of events";
-    ParseError::new(Span::default(), DeserializeErrorKind::Alloc { operation })
 }
 
 impl<'de> FormatParser<'de> for TerseParser<'de> {
@@ -118,13 +105,11 @@ impl<'de> FormatParser<'de> for TerseParser<'de> {
 
     #[tactic(auto, using(crate::proofs::Taking::takes, crate::proofs::Taking::keeps, crate::proofs::Taking::fails, crate::proofs::Taking::ended, crate::proofs::Taking::meets))]
     fn next_event(&mut self) -> Result<Option<ParseEvent<'de>>, ParseError<'de>> {
-        match self.look()? {
-            Some(event) => {
-                self.rest = self.rest.split_at(1).1;
-                Ok(Some(event))
-            }
-            None => Ok(None),
-        }
+        let Some(event) = self.look()? else {
+            return Ok(None);
+        };
+        self.rest = self.rest.split_at(1).1;
+        Ok(Some(event))
     }
 
     #[tactic(auto, using(crate::proofs::Taking::put_first, crate::proofs::Taking::put_another, crate::proofs::Taking::put_last, crate::proofs::Taking::put_end))]
@@ -134,12 +119,8 @@ impl<'de> FormatParser<'de> for TerseParser<'de> {
         limit: usize,
     ) -> Result<usize, ParseError<'de>> {
         let mut count = 0;
-        'events: while count < limit {
-            match self.put_next(buf) {
-                Ok(true) => count += 1,
-                Ok(false) => return Ok(count),
-                Err(error) => return Err(error),
-            }
+        'events: while count < limit && self.put_next(buf)? {
+            count += 1;
         }
         Ok(count)
     }
