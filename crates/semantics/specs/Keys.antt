@@ -1,5 +1,5 @@
 -- The keys that the object of a struct may have, and where each leads.
-use Rattle.std.specs.Prelude.{ℕ, zero, suc, List, [], ◌∷◌, ◌++◌, map, Bool, true, false, cond, ◌&&◌, ◌||◌, not, length, Option, Some, None, option_map, bytes_eq, is_some}
+use Rattle.std.specs.Prelude.{ℕ, zero, suc, nat_lt, List, [], ◌∷◌, ◌++◌, map, Bool, true, false, cond, ◌&&◌, ◌||◌, not, length, Option, Some, None, option_map, bytes_eq, is_some}
 use Rattle.std.specs.List.{cons_option}
 use Rattle.semantics.specs.Shapes.{Field, effective_name, Definition, Registry, definition_at}
 use Rattle.semantics.specs.Events.{Key, named, nameless, ordered}
@@ -76,10 +76,24 @@ pub record Plan : Type 0 where
   pub stray : Option Path
   -- whether an unknown key is refused
   pub deny : Bool
+  -- how many fields there are
+  pub fields : ℕ
+  -- whether a key may name the next field by its order
+  pub by_order : Bool
+
+-- Whether keys may name the fields of such an object by their order. That isn't built yet.
+abbrev pub takes_order : Layout → Bool
+takes_order l = false
 
 -- what is asked of the keys of an object, under a choice of variants
 abbrev pub plan_of : Registry → Choice → Bool → Layout → Plan
-plan_of g c deny l = record { declared = keys g l c; stray = stray_by g (flat_stray g (length g)) c 0 l.fields; deny = deny }
+plan_of g c deny l = record {
+  declared = keys g l c;
+  stray = stray_by g (flat_stray g (length g)) c 0 l.fields;
+  deny = deny;
+  fields = length l.fields;
+  by_order = takes_order l;
+}
 
 -- where the key of an entry leads; k fields were named by their order before it
 abbrev pub leads : Plan → ℕ → Key → Option Path
@@ -107,12 +121,12 @@ abbrev pub placed : Plan → ℕ → List Entry → List Placed
 placed plan k [] = []
 placed plan k (e ∷ es) = cons_option (with_entry e (leads plan k e.key)) (placed plan (after_key k e.key) es)
 
--- A named key that leads nowhere is allowed where unknown keys aren't refused, and a key without a name is always. That
--- keys name their fields by their order isn't built yet.
+-- A named key that leads nowhere is allowed where unknown keys aren't refused, and a key without a name is always. A key
+-- by order is allowed where the plan says so and there is one more field.
 abbrev pub is_allowed : Plan → ℕ → Key → Bool
 is_allowed plan k (named t m n) = is_some (leads plan k (named t m n)) || not plan.deny
 is_allowed plan k (nameless m n) = true
-is_allowed plan k (ordered n) = false
+is_allowed plan k (ordered n) = plan.by_order && nat_lt k plan.fields
 
 -- each key is allowed, the first after k fields that were named by their order
 abbrev pub are_allowed : Plan → ℕ → List Entry → Bool
