@@ -7,7 +7,7 @@ use Rattle.semantics.specs.Trees.{Tree, unit_value, bool_value, char_value, unsi
 use Rattle.semantics.specs.Shapes.{is_tuple, Field, effective_name}
 use Rattle.semantics.specs.Events.{no_note, of_struct, of_sequence, object_kind, array_kind, Event, start, stop}
 use Rattle.semantics.specs.Calls.{Literal, null_literal, bool_literal, char_literal, str_literal, begin_struct, end_struct, begin_seq, end_seq}
-use Rattle.semantics.specs.Documents.{Document, Documents, Members, key_event, document_events, documents_events, members_events}
+use Rattle.semantics.specs.Documents.{Mark, free, Document, Documents, Members, key_event, document_events, documents_events, members_events}
 use Rattle.semantics.specs.Typed.{scalar_at, option_at, ok_at, err_at, item_at, length_at, struct_at, takes_unit, takes_bool, takes_char, takes_unsigned, takes_signed, takes_text, has_length}
 use Rattle.semantics.specs.Writing.{Unwritten, Written, unfit_at, of_form, where_fits, written_plain, unsigned_literal, signed_literal, written_sequence, written_object, written_under, put_document, put_member, write, write_each, write_items, write_fields}
 use Rattle.semantics.specs.Calling.{Part, one_call, then_if, then, part_if, part_of, Writer, scalar_calls, sequence_calls, object_calls, entry_calls, calls_of, calls_of_each, calls_of_items, calls_of_fields}
@@ -58,11 +58,11 @@ document_tells (Err e) ds p q broken rest = then_broken p q broken
 document_tells (Ok d) (Err e) p q (whole, is) broken = then_whole p q whole ∙ broken
 document_tells (Ok d) (Ok ds) p q (whole, is) (whole', is') = (then_whole p q whole ∙ whole', then_told p q whole ∙ ap₂ (λ a b. a ++ b) is is')
 
-member_tells : (name : List ℕ) (d : Written Document) (ms : Written Members) (p q : Part) → TellsForm d p → TellsMembers ms q
-    → TellsMembers (put_member name d ms) (then (entry_calls name p) q)
-member_tells name (Err e) ms p q broken rest = then_broken (entry_calls name p) q broken
-member_tells name (Ok d) (Err e) p q (whole, is) broken = then_whole (entry_calls name p) q whole ∙ broken
-member_tells name (Ok d) (Ok ms) p q (whole, is) (whole', is') =
+member_tells : (m : Mark) (name : List ℕ) (d : Written Document) (ms : Written Members) (p q : Part) → TellsForm d p → TellsMembers ms q
+    → TellsMembers (put_member m name d ms) (then (entry_calls name p) q)
+member_tells m name (Err e) ms p q broken rest = then_broken (entry_calls name p) q broken
+member_tells m name (Ok d) (Err e) p q (whole, is) broken = then_whole (entry_calls name p) q whole ∙ broken
+member_tells m name (Ok d) (Ok ms) p q (whole, is) (whole', is') =
     (then_whole (entry_calls name p) q whole ∙ whole', then_told (entry_calls name p) q whole ∙ ap₂ (λ a b. key_event name ∷ (a ++ b)) is is')
 
 sequence_tells : (ds : Written Documents) (p : Part) → TellsDocuments ds p → TellsForm (written_sequence ds) (sequence_calls p)
@@ -131,4 +131,4 @@ module _ (w : Writer) where
     fields_tell [] (tree v vs) = refl
     fields_tell (f ∷ fs) no_trees = refl
     fields_tell (f ∷ fs) (tree v vs) =
-        member_tells (effective_name f) (write w.registry f.shape v) (write_fields w.registry fs vs) (calls_of w f.shape v) (calls_of_fields w fs vs) (value_tells f.shape v) (fields_tell fs vs)
+        member_tells free (effective_name f) (write w.registry f.shape v) (write_fields w.registry fs vs) (calls_of w f.shape v) (calls_of_fields w fs vs) (value_tells f.shape v) (fields_tell fs vs)

@@ -10,7 +10,7 @@ use Rattle.semantics.specs.Shapes.{bits8, bits16, bits32, bits64, bits128, addre
 use Rattle.semantics.specs.Scalars.{fits_unsigned, fits_signed}
 use Rattle.semantics.specs.Registry.{name_is_utf8, field_is_utf8, definition_is_utf8, shape_is_utf8, IsRegistry}
 use Rattle.semantics.specs.Calls.{Literal, null_literal, bool_literal, char_literal, i64_literal, u64_literal, str_literal}
-use Rattle.semantics.specs.Documents.{Document, plain, sequence, object, Documents, no_documents, document, Members, no_members, member, Member, member_list, Permuted, EachPermuted, Reordered}
+use Rattle.semantics.specs.Documents.{free, Document, plain, sequence, object, Documents, no_documents, document, Members, no_members, member, Member, member_list, Permuted, EachPermuted, Reordered}
 use Rattle.semantics.specs.Typed.{scalar_at, option_at, ok_at, err_at, item_at, length_at, struct_at, takes_unit, takes_bool, takes_char, takes_unsigned, takes_signed, takes_text, has_length, tree_is_utf8, trees_are_utf8}
 use Rattle.semantics.specs.Writing.{unfit_at, Written, written_plain, unsigned_literal, signed_literal, written_sequence, written_object, written_under, write, write_each, write_items, write_fields}
 use Rattle.laws.proofs.Built.{BuiltField, struct_built, built, found_shape, struct_defined}
@@ -228,5 +228,5 @@ module _ (g : Registry) (checked : IsRegistry g) where
     members_fit (f ∷ fs) no_trees ms names texts e = absurd cc
     members_fit (f ∷ fs) (tree v vs) ms (name, names) texts e =
         let (here, rest) = is_both (tree_is_utf8 v) (trees_are_utf8 vs) texts in
-        let (x, ns, is_x, is_ns, is) = put_inverted (effective_name f) (write g f.shape v) (write_fields g fs vs) ms e in
+        let (x, ns, is_x, is_ns, is) = put_inverted free (effective_name f) (write g f.shape v) (write_fields g fs vs) ms e in
         subst MembersFit (sym is) ((name, written_fits f.shape v x here is_x), members_fit fs vs ns names rest is_ns)

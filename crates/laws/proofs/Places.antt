@@ -69,7 +69,7 @@ module _ (g : Registry) (plan : Plan) where
   fields_placed p inner whole c k [] (tree v vs) ms lead own e = absurd cc
   fields_placed p inner whole c k (f ∷ fs) no_trees ms lead own e = absurd cc
   fields_placed p inner whole c k (f ∷ fs) (tree v vs) ms lead (own, others) e =
-      let (x, ns, is_x, is_ns, is) = put_inverted (effective_name f) (write g f.shape v) (write_fields g fs vs) ms e in
+      let (x, ns, is_x, is_ns, is) = put_inverted free (effective_name f) (write g f.shape v) (write_fields g fs vs) ms e in
       let mine : Has (record { path = k ∷ []; item = effective_name f }) (field_keys g inner whole c k f) = subst (Has (record { path = k ∷ []; item = effective_name f })) (sym (keys_own g inner whole c k f own)) (inl refl) in
       let here = lead (record { path = k ∷ []; item = effective_name f }) (has_left (record { path = k ∷ []; item = effective_name f }) (field_keys g inner whole c k f) (keys_by g inner whole c (suc k) fs) mine) in
       let rest = fields_placed p inner whole c (suc k) fs vs ns (λ y h. lead y (has_right y (field_keys g inner whole c k f) (keys_by g inner whole c (suc k) fs) h)) others is_ns in

@@ -3,6 +3,7 @@ use Rattle.std.proofs.Common.{◌≡◌, ℕ, suc, List, ◌∷◌, Option, Some
 use Rattle.semantics.specs.Trees.{Tree, text, some, ok, err, list, structure, Trees, no_trees, tree, tree_count}
 use Rattle.semantics.specs.Shapes.{is_tuple, Field, effective_name, Registry}
 use Rattle.semantics.specs.Calls.{str_literal}
+use Rattle.semantics.specs.Documents.{free}
 use Rattle.semantics.specs.Typed.{scalar_at, option_at, ok_at, err_at, item_at, length_at, struct_at, takes_text, has_length}
 use Rattle.semantics.specs.Writing.{Unwritten, Written, unfit_at, of_form, where_fits, written_plain, written_sequence, written_object, written_under, put_document, put_member, write, write_each, write_items, write_fields}
 use Rattle.semantics.specs.Validity.{OnPart, Alike, EachAlike, FieldsAlike}
@@ -60,5 +61,5 @@ mutual
 
   fields_write_alike : (g : Registry) (fs : List Field) (vs ws : Trees) → FieldsAlike g fs vs ws → write_fields g fs ws ≡ write_fields g fs vs
   fields_write_alike g (f ∷ fs) (tree v vs) ws (w, ws', is, alike, alikes) =
-      ap (write_fields g (f ∷ fs)) is ∙ ap₂ (put_member (effective_name f)) (write_alike g f.shape v w alike) (fields_write_alike g fs vs ws' alikes)
+      ap (write_fields g (f ∷ fs)) is ∙ ap₂ (put_member free (effective_name f)) (write_alike g f.shape v w alike) (fields_write_alike g fs vs ws' alikes)
   fields_write_alike g fs vs ws is = ap (write_fields g fs) is

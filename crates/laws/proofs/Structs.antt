@@ -8,7 +8,7 @@ use Rattle.semantics.specs.Trees.{Tree, structure, Trees, no_trees, tree}
 use Rattle.semantics.specs.Shapes.{Field, effective_name, Registry, definition_at}
 use Rattle.semantics.specs.Events.{Note, named}
 use Rattle.semantics.specs.Runs.{Run, Entry}
-use Rattle.semantics.specs.Documents.{Document, Members, Member, member_list, on_tape}
+use Rattle.semantics.specs.Documents.{free, Document, Members, Member, member_list, on_tape}
 use Rattle.semantics.specs.Writing.{Written, write, write_fields}
 use Rattle.semantics.specs.Places.{Path, rest_of, rest_at, below, has_whole, Choice}
 use Rattle.semantics.specs.Keys.{flat_keys, keys, Layout, Plan, plan_of, leads, after_key, Placed, with_entry, placed, is_allowed, are_allowed}
@@ -96,7 +96,7 @@ module _ (g : Registry) (rd : Reader) where
   fields_back flat whole c k (f ∷ fs) (tree v vs) ms all ps m cut (own, others) (when_written, good) e =
       let part = own_document k (write g f.shape v) in
       let rest = fields_places g (suc k) fs vs in
-      let (x, ns, is_x, is_ns, is) = put_inverted (effective_name f) (write g f.shape v) (write_fields g fs vs) ms e in
+      let (x, ns, is_x, is_ns, is) = put_inverted free (effective_name f) (write g f.shape v) (write_fields g fs vs) ms e in
       let here : below k all ≡ below k part =
       cut k (omega arith) ∙ filter_map-append (rest_at k) part rest ∙ ap (λ l. below k part ++ l) (later g fs vs (suc k) k (omega arith)) ∙ append-nil (below k part) in
       let mine = subst (λ l. Mixes SamePlace l (below k ps)) here (below_mixes k all ps m) in

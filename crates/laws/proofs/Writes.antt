@@ -1,7 +1,7 @@
 -- What documents that are there were made of.
 use Rattle.std.proofs.Common.{◌≡◌, List, Option, Some, None, Bool, true, false, Ok, Err, ℕ, refl}
 use Rattle.semantics.specs.Calls.{Literal}
-use Rattle.semantics.specs.Documents.{free, Document, plain, sequence, object, Documents, document, Members, no_members, member}
+use Rattle.semantics.specs.Documents.{Mark, free, Document, plain, sequence, object, Documents, document, Members, no_members, member}
 use Rattle.semantics.specs.Writing.{Unwritten, Written, of_form, where_fits, written_plain, written_sequence, written_object, written_under, put_document, put_member}
 
 -- the shape has the part
@@ -35,8 +35,8 @@ document_inverted (Err e) o ds is = absurd cc
 document_inverted (Ok x) (Err e) ds is = absurd cc
 document_inverted (Ok x) (Ok xs) ds is = (x, xs, refl, refl, cc)
 
-pub put_inverted : (name : List ℕ) (d : Written Document) (o : Written Members) (ms : Members) → put_member name d o ≡ Ok ms
-    → (x : Document) × (ns : Members) × (d ≡ Ok x) × (o ≡ Ok ns) × (ms ≡ member free name x ns)
-put_inverted name (Err e) o ms is = absurd cc
-put_inverted name (Ok x) (Err e) ms is = absurd cc
-put_inverted name (Ok x) (Ok ns) ms is = (x, ns, refl, refl, cc)
+pub put_inverted : (m : Mark) (name : List ℕ) (d : Written Document) (o : Written Members) (ms : Members) → put_member m name d o ≡ Ok ms
+    → (x : Document) × (ns : Members) × (d ≡ Ok x) × (o ≡ Ok ns) × (ms ≡ member m name x ns)
+put_inverted m name (Err e) o ms is = absurd cc
+put_inverted m name (Ok x) (Err e) ms is = absurd cc
+put_inverted m name (Ok x) (Ok ns) ms is = (x, ns, refl, refl, cc)

@@ -4,7 +4,7 @@ use Rattle.std.specs.Fmt.{decimal, signed_decimal}
 use Rattle.semantics.specs.Trees.{Tree, unit_value, bool_value, char_value, unsigned, signed, text, none, some, ok, err, list, mapping, structure, variant, Trees, no_trees, tree, tree_count}
 use Rattle.semantics.specs.Shapes.{bits128, ScalarType, unsigned_type, signed_type, is_tuple, Field, effective_name, Definition, set_shape, map_shape, enum_shape, Registry}
 use Rattle.semantics.specs.Calls.{Literal, null_literal, bool_literal, char_literal, i64_literal, u64_literal, str_literal}
-use Rattle.semantics.specs.Documents.{free, Document, plain, sequence, object, Documents, no_documents, document, Members, no_members, member}
+use Rattle.semantics.specs.Documents.{Mark, free, Document, plain, sequence, object, Documents, no_documents, document, Members, no_members, member}
 use Rattle.semantics.specs.Results.{on_ok}
 use Rattle.semantics.specs.Typed.{base, scalar_at, option_at, ok_at, err_at, item_at, length_at, struct_at, takes_unit, takes_bool, takes_char, takes_unsigned, takes_signed, takes_text, has_length}
 
@@ -76,9 +76,9 @@ written_under name o = on_ok o (λ d. Ok (object (member free name d no_members)
 abbrev pub put_document : Written Document → Written Documents → Written Documents
 put_document d ds = on_ok d (λ x. on_ok ds (λ xs. Ok (document x xs)))
 
--- an entry, and those behind it
-abbrev pub put_member : List ℕ → Written Document → Written Members → Written Members
-put_member name d ms = on_ok d (λ x. on_ok ms (λ xs. Ok (member free name x xs)))
+-- an entry with its mark, and those after it
+abbrev pub put_member : Mark → List ℕ → Written Document → Written Members → Written Members
+put_member m name d ms = on_ok d (λ x. on_ok ms (λ xs. Ok (member m name x xs)))
 
 -- The document of a value. Unit and nothing are written as null, and what an option holds as itself. Of a result the key of
 -- one entry says how it went. A list, an array and a tuple are the sequence of their items, and another struct is the object
@@ -114,5 +114,5 @@ abbrev mutual
   -- the fields of another struct
   pub write_fields : Registry → List Field → Trees → Written Members
   write_fields g [] no_trees = Ok no_members
-  write_fields g (f ∷ fs) (tree v vs) = put_member (effective_name f) (write g f.shape v) (write_fields g fs vs)
+  write_fields g (f ∷ fs) (tree v vs) = put_member free (effective_name f) (write g f.shape v) (write_fields g fs vs)
   write_fields g _ _ = Err not_typed
