@@ -8,11 +8,11 @@ use Rattle.semantics.specs.Calls.{null_literal}
 use Rattle.semantics.specs.Events.{no_note, named}
 use Rattle.semantics.specs.Runs.{Run, Entry}
 use Rattle.semantics.specs.Documents.{free, Document, plain, object, Documents, no_documents, document, no_members, member, on_tape}
-use Rattle.semantics.specs.Typed.{base, on_some, has_length}
+use Rattle.semantics.specs.Typed.{base, has_length}
 use Rattle.semantics.specs.Writing.{where_fits, written_sequence, written_object, write, write_each, write_items, write_fields}
 use Rattle.semantics.specs.Reading.{Setting, from_events, Reader, plain_layout, read_option, read_scalar, read_sequence, read_each, read_items, by_outcome, read_result, read_elements, read_tuple, read_struct, read_object, and_trees, read_as, read_shape, read}
 use Rattle.semantics.specs.Depths.{depth, deepest, deepest_field}
-use Rattle.semantics.specs.Validity.{HasNoClash, is_null_form, Distinct, Separable, EachAlike, FieldsAlike}
+use Rattle.semantics.specs.Validity.{repeated_key, option_over_null, borrowed_text, HasDistinctKeys, OwnsTexts, HasNoClash, may_be_null, Distinct, every_clash, Separable, EachAlike, FieldsAlike}
 use Rattle.laws.proofs.Built.{BuiltField, is_opaque, struct_built, built, no_base}
 use Rattle.laws.proofs.Based.{write_by, write_is, depth_by, depth_is, positive, alike_by, write_here, depth_here, alike_here, write_inner, depth_inner, alike_inner}
 use Rattle.laws.proofs.Nulls.{none_written, not_null, holds_something}
@@ -56,9 +56,9 @@ one_entry name d es order =
     (e, is, (n, key ∙ ap (λ t. named (on_tape t) None n) same), (y.document, p, shown))
 
 module _ (g : Setting) (checked : IsRegistry g.registry) (n : ℕ) (rd : Reader)
-    (parts : (s : ℕ) → Separable g.registry s → (v : Tree) (d : Document) (r : Run) → depth g.registry s v ≤ n → write g.registry s v ≡ Ok d → Comes d r
+    (parts : (s : ℕ) → Separable every_clash g.registry s → (v : Tree) (d : Document) (r : Run) → depth g.registry s v ≤ n → write g.registry s v ≡ Ok d → Comes d r
     → ReadAs g.registry s v (rd s from_events r)) where
-  scalar_step : (s : ℕ) (t : ScalarType) → HasNoClash g.registry (scalar_shape t) → (v : Tree) (d : Document) (r : Run) → write_by g.registry (Some (scalar_shape t)) v ≡ Ok d → Comes d r
+  scalar_step : (s : ℕ) (t : ScalarType) → OwnsTexts (scalar_shape t) → (v : Tree) (d : Document) (r : Run) → write_by g.registry (Some (scalar_shape t)) v ≡ Ok d → Comes d r
       → ReadBy g.registry (scalar_shape t) v (read_scalar g.borrow s t r)
   scalar_step s t apart v d r e comes =
       let (fits, is) = scalar_inverted g.registry t v d e in
@@ -66,7 +66,7 @@ module _ (g : Setting) (checked : IsRegistry g.registry) (n : ℕ) (rd : Reader)
       let (w, set, alike) = scalar_back g.registry g.borrow s t v apart fits in
       (w, ap (read_scalar g.borrow s t) is_r ∙ set, alike)
 
-  option_step : (i : ℕ) → on_some (base g.registry i) is_null_form ≡ false → Separable g.registry i → (v : Tree) (d : Document) (r : Run)
+  option_step : (i : ℕ) → may_be_null g.registry i ≡ false → Separable every_clash g.registry i → (v : Tree) (d : Document) (r : Run)
       → depth_by g.registry (Some (option_shape i)) v ≤ suc n → write_by g.registry (Some (option_shape i)) v ≡ Ok d → Comes d r
       → ReadBy g.registry (option_shape i) v (read_option (rd i from_events) r)
   option_step i other sep none d r deep e comes =
@@ -74,7 +74,7 @@ module _ (g : Setting) (checked : IsRegistry g.registry) (n : ℕ) (rd : Reader)
       let (note, is_r) = comes_plain null_literal r (subst (λ x. Comes x r) (sym is) comes) in
       (none, ap (read_option (rd i from_events)) is_r, refl)
   option_step i other sep (some v) d r deep e comes =
-      let here = holds_something d r (not_null g.registry (base g.registry i) v d other (sym (write_is g.registry i v) ∙ e)) comes in
+      let here = holds_something d r (not_null g.registry i v d other (sym (write_is g.registry i v) ∙ e)) comes in
       let (w, inner, alike) = parts i sep v d r (omega (arith, deep)) e comes in
       (some w, ap₂ (λ b o. cond b (Some none) (option_map some o)) here inner, (w, refl, alike))
   option_step i other sep _ d r deep e comes = absurd cc
@@ -92,7 +92,7 @@ module _ (g : Setting) (checked : IsRegistry g.registry) (n : ℕ) (rd : Reader)
             ∙ ap (λ k. option_and_then (λ o. o) (by_outcome k (option_map ok (rd i from_events e.run)) (option_map err (rd j from_events e.run)))) key,
       )
 
-  result_step : (i j : ℕ) → Separable g.registry i → Separable g.registry j → (v : Tree) (d : Document) (r : Run)
+  result_step : (i j : ℕ) → Separable every_clash g.registry i → Separable every_clash g.registry j → (v : Tree) (d : Document) (r : Run)
       → depth_by g.registry (Some (result_shape i j)) v ≤ suc n → write_by g.registry (Some (result_shape i j)) v ≡ Ok d → Comes d r
       → ReadBy g.registry (result_shape i j) v (read_object (read_result rd i j) r)
   result_step i j sep other (ok v) d r deep e comes =
@@ -107,7 +107,7 @@ module _ (g : Setting) (checked : IsRegistry g.registry) (n : ℕ) (rd : Reader)
       (err w, whole ∙ ap (option_map err) inner, (w, refl, alike))
   result_step i j sep other _ d r deep e comes = absurd cc
 
-  each_back : (i : ℕ) → Separable g.registry i → (vs : Trees) (ds : Documents) (rs : List Run) → deepest g.registry i vs ≤ n → write_each g.registry i vs ≡ Ok ds → EachComes ds rs
+  each_back : (i : ℕ) → Separable every_clash g.registry i → (vs : Trees) (ds : Documents) (rs : List Run) → deepest g.registry i vs ≤ n → write_each g.registry i vs ≡ Ok ds → EachComes ds rs
       → EachReadAs g.registry i vs (read_each (rd i from_events) rs)
   each_back i sep no_trees ds rs deep e each =
       let is : no_documents ≡ ds = cc in
@@ -121,7 +121,7 @@ module _ (g : Setting) (checked : IsRegistry g.registry) (n : ℕ) (rd : Reader)
       (tree w ws, ap (read_each (rd i from_events)) is_rs ∙ ap₂ and_trees one_read all_read, (w, ws, refl, alike, alikes))
 
   -- a list, or an array of so many items
-  items_back : (i : ℕ) (len : Option ℕ) → Separable g.registry i → (vs : Trees) (d : Document) (r : Run) → deepest g.registry i vs ≤ n
+  items_back : (i : ℕ) (len : Option ℕ) → Separable every_clash g.registry i → (vs : Trees) (d : Document) (r : Run) → deepest g.registry i vs ≤ n
       → where_fits (has_length len (tree_count vs)) (written_sequence (write_each g.registry i vs)) ≡ Ok d → Comes d r
       → (ws : Trees) × (read_sequence (read_items (rd i from_events) len) r ≡ Some (list ws)) × EachAlike g.registry i vs ws
   items_back i len sep vs d r deep e comes =
@@ -136,21 +136,21 @@ module _ (g : Setting) (checked : IsRegistry g.registry) (n : ℕ) (rd : Reader)
         alikes,
       )
 
-  list_step : (i : ℕ) → Separable g.registry i → (v : Tree) (d : Document) (r : Run) → depth_by g.registry (Some (list_shape i)) v ≤ suc n → write_by g.registry (Some (list_shape i)) v ≡ Ok d → Comes d r
+  list_step : (i : ℕ) → Separable every_clash g.registry i → (v : Tree) (d : Document) (r : Run) → depth_by g.registry (Some (list_shape i)) v ≤ suc n → write_by g.registry (Some (list_shape i)) v ≡ Ok d → Comes d r
       → ReadBy g.registry (list_shape i) v (read_sequence (read_items (rd i from_events) None) r)
   list_step i sep (list vs) d r deep e comes =
       let (ws, whole, alikes) = items_back i None sep vs d r (omega (arith, deep)) e comes in
       (list ws, whole, (ws, refl, alikes))
   list_step i sep _ d r deep e comes = absurd cc
 
-  array_step : (i m : ℕ) → Separable g.registry i → (v : Tree) (d : Document) (r : Run) → depth_by g.registry (Some (array_shape i m)) v ≤ suc n → write_by g.registry (Some (array_shape i m)) v ≡ Ok d
+  array_step : (i m : ℕ) → Separable every_clash g.registry i → (v : Tree) (d : Document) (r : Run) → depth_by g.registry (Some (array_shape i m)) v ≤ suc n → write_by g.registry (Some (array_shape i m)) v ≡ Ok d
       → Comes d r → ReadBy g.registry (array_shape i m) v (read_sequence (read_items (rd i from_events) (Some m)) r)
   array_step i m sep (list vs) d r deep e comes =
       let (ws, whole, alikes) = items_back i (Some m) sep vs d r (omega (arith, deep)) e comes in
       (list ws, whole, (ws, refl, alikes))
   array_step i m sep _ d r deep e comes = absurd cc
 
-  elements_back : (fs : List Field) → Every (λ f. Separable g.registry f.shape) fs → (vs : Trees) (ds : Documents) (rs : List Run) → deepest_field g.registry fs vs ≤ n
+  elements_back : (fs : List Field) → Every (λ f. Separable every_clash g.registry f.shape) fs → (vs : Trees) (ds : Documents) (rs : List Run) → deepest_field g.registry fs vs ≤ n
       → write_items g.registry fs vs ≡ Ok ds → EachComes ds rs → FieldsReadAs g.registry fs vs (read_elements g.registry rd fs rs)
   elements_back [] sep no_trees ds rs deep e each =
       let is : no_documents ≡ ds = cc in
@@ -165,7 +165,7 @@ module _ (g : Setting) (checked : IsRegistry g.registry) (n : ℕ) (rd : Reader)
       let (ws, all_read, alikes) = elements_back fs sep vs xs rest (omega (arith, deep)) is_xs others in
       (tree w ws, ap (read_elements g.registry rd (f ∷ fs)) is_rs ∙ ap₂ and_trees one_read all_read, (w, ws, refl, alike, alikes))
 
-  tuple_back : (q : StructShape) → Every (λ f. Separable g.registry f.shape) q.fields → (vs : Trees) (d : Document) (r : Run) → deepest_field g.registry q.fields vs ≤ n
+  tuple_back : (q : StructShape) → Every (λ f. Separable every_clash g.registry f.shape) q.fields → (vs : Trees) (d : Document) (r : Run) → deepest_field g.registry q.fields vs ≤ n
       → written_sequence (write_items g.registry q.fields vs) ≡ Ok d → Comes d r
       → (ws : Trees) × (read_tuple g.registry rd q r ≡ Some (structure ws)) × FieldsAlike g.registry q.fields vs ws
   tuple_back q sep vs d r deep e comes =
@@ -177,12 +177,12 @@ module _ (g : Setting) (checked : IsRegistry g.registry) (n : ℕ) (rd : Reader)
         alikes,
       )
 
-  fields_read : (fs : List Field) (vs : Trees) → Every (λ f. Separable g.registry f.shape) fs → deepest_field g.registry fs vs ≤ n → FieldsRead g.registry rd fs vs
+  fields_read : (fs : List Field) (vs : Trees) → Every (λ f. Separable every_clash g.registry f.shape) fs → deepest_field g.registry fs vs ≤ n → FieldsRead g.registry rd fs vs
   fields_read [] vs sep deep = tt
   fields_read (f ∷ fs) no_trees sep deep = tt
   fields_read (f ∷ fs) (tree v vs) (here, sep) deep = ((λ d r e comes. parts f.shape here v d r (omega (arith, deep)) e comes), fields_read fs vs sep (omega (arith, deep)))
 
-  object_back : (q : StructShape) → Every BuiltField q.fields → ((c : Choice) → Distinct (keys g.registry (plain_layout q) c)) → Every (λ f. Separable g.registry f.shape) q.fields
+  object_back : (q : StructShape) → Every BuiltField q.fields → ((c : Choice) → Distinct (keys g.registry (plain_layout q) c)) → Every (λ f. Separable every_clash g.registry f.shape) q.fields
       → (vs : Trees) (d : Document) (r : Run) → deepest_field g.registry q.fields vs ≤ n → written_object (write_fields g.registry q.fields vs) ≡ Ok d → Comes d r
       → (ws : Trees) × (read_object (read_struct g.registry rd [] q.deny (plain_layout q)) r ≡ Some (structure ws)) × FieldsAlike g.registry q.fields vs ws
   object_back q fields distinct sep vs d r deep e comes =
@@ -195,14 +195,14 @@ module _ (g : Setting) (checked : IsRegistry g.registry) (n : ℕ) (rd : Reader)
       )
 
   -- a struct that is a tuple, or none
-  struct_back : (q : StructShape) (b : Bool) → is_tuple q.kind ≡ b → Every BuiltField q.fields → HasNoClash g.registry (struct_shape q) → Every (λ f. Separable g.registry f.shape) q.fields
+  struct_back : (q : StructShape) (b : Bool) → is_tuple q.kind ≡ b → Every BuiltField q.fields → HasDistinctKeys g.registry (struct_shape q) → Every (λ f. Separable every_clash g.registry f.shape) q.fields
       → (vs : Trees) (d : Document) (r : Run) → deepest_field g.registry q.fields vs ≤ n
       → cond b (written_sequence (write_items g.registry q.fields vs)) (written_object (write_fields g.registry q.fields vs)) ≡ Ok d → Comes d r
       → (ws : Trees) × (cond b (read_tuple g.registry rd q r) (read_object (read_struct g.registry rd [] q.deny (plain_layout q)) r) ≡ Some (structure ws)) × FieldsAlike g.registry q.fields vs ws
   struct_back q true kind fields apart sep vs d r deep e comes = tuple_back q sep vs d r deep e comes
   struct_back q false kind fields apart sep vs d r deep e comes = object_back q fields (apart kind) sep vs d r deep e comes
 
-  struct_step : (q : StructShape) → Every BuiltField q.fields → HasNoClash g.registry (struct_shape q) → Every (λ f. Separable g.registry f.shape) q.fields → (v : Tree) (d : Document) (r : Run)
+  struct_step : (q : StructShape) → Every BuiltField q.fields → HasDistinctKeys g.registry (struct_shape q) → Every (λ f. Separable every_clash g.registry f.shape) q.fields → (v : Tree) (d : Document) (r : Run)
       → depth_by g.registry (Some (struct_shape q)) v ≤ suc n → write_by g.registry (Some (struct_shape q)) v ≡ Ok d → Comes d r
       → ReadBy g.registry (struct_shape q) v (cond (is_tuple q.kind) (read_tuple g.registry rd q r) (read_object (read_struct g.registry rd [] q.deny (plain_layout q)) r))
   struct_step q fields apart sep (structure vs) d r deep e comes =
@@ -211,35 +211,35 @@ module _ (g : Setting) (checked : IsRegistry g.registry) (n : ℕ) (rd : Reader)
   struct_step q fields apart sep _ d r deep e comes = absurd cc
 
   -- one step: where the parts are read back, so is the whole
-  step : (s : ℕ) (def : Definition) → is_opaque def ≡ true → is_unbuilt def ≡ false → HasNoClash g.registry def → PartsSeparable g.registry def → (v : Tree) (d : Document) (r : Run)
+  step : (s : ℕ) (def : Definition) → is_opaque def ≡ true → is_unbuilt def ≡ false → HasNoClash every_clash g.registry def → PartsSeparable every_clash g.registry def → (v : Tree) (d : Document) (r : Run)
       → depth_by g.registry (Some def) v ≤ suc n → write_by g.registry (Some def) v ≡ Ok d → Comes d r → ReadBy g.registry def v (read_as g rd s from_events def r)
-  step s (scalar_shape t) opaque fine apart sep v d r deep e comes = scalar_step s t apart v d r e comes
-  step s (option_shape i) opaque fine apart sep v d r deep e comes = option_step i apart (sep i (first_part i [])) v d r deep e comes
+  step s (scalar_shape t) opaque fine apart sep v d r deep e comes = scalar_step s t (apart borrowed_text refl) v d r e comes
+  step s (option_shape i) opaque fine apart sep v d r deep e comes = option_step i (apart option_over_null refl) (sep i (first_part i [])) v d r deep e comes
   step s (result_shape i j) opaque fine apart sep v d r deep e comes = result_step i j (sep i (first_part i (j ∷ []))) (sep j (later_part i (j ∷ []) j (first_part j []))) v d r deep e comes
   step s (list_shape i) opaque fine apart sep v d r deep e comes = list_step i (sep i (first_part i [])) v d r deep e comes
   step s (array_shape i m) opaque fine apart sep v d r deep e comes = array_step i m (sep i (first_part i [])) v d r deep e comes
-  step s (struct_shape q) opaque fine apart sep v d r deep e comes = struct_step q (struct_built q fine).fields apart (each_separable g.registry q.fields sep) v d r deep e comes
+  step s (struct_shape q) opaque fine apart sep v d r deep e comes = struct_step q (struct_built q fine).fields (apart repeated_key refl) (each_separable every_clash g.registry q.fields sep) v d r deep e comes
   step s _ opaque fine apart sep v d r deep e comes = absurd cc
 
-  opaque_step : (s : ℕ) (def : Definition) → definition_at g.registry s ≡ Some def → is_opaque def ≡ true → Separable g.registry s → (v : Tree) (d : Document) (r : Run)
+  opaque_step : (s : ℕ) (def : Definition) → definition_at g.registry s ≡ Some def → is_opaque def ≡ true → Separable every_clash g.registry s → (v : Tree) (d : Document) (r : Run)
       → depth g.registry s v ≤ suc n → write g.registry s v ≡ Ok d → Comes d r → ReadAs g.registry s v (read_as g rd s from_events def r)
   opaque_step s def at opaque sep v d r deep e comes =
-      let (w, whole, alike) = step s def opaque (built g.registry checked s def at) (here_apart g.registry s def sep at) (parts_separable g.registry s def sep at) v d r
+      let (w, whole, alike) = step s def opaque (built g.registry checked s def at) (here_apart every_clash g.registry s def sep at) (parts_separable every_clash g.registry s def sep at) v d r
       (subst (λ m. m ≤ suc n) (depth_here g.registry s def at opaque v) deep) (sym (write_here g.registry s def at opaque v) ∙ e) comes in
       (w, whole, alike_here g.registry s def at opaque v w alike)
 
   -- a transparent shape is read as its inner one
-  found_step : (s : ℕ) (o : Option Definition) → definition_at g.registry s ≡ o → Separable g.registry s → (v : Tree) (d : Document) (r : Run)
+  found_step : (s : ℕ) (o : Option Definition) → definition_at g.registry s ≡ o → Separable every_clash g.registry s → (v : Tree) (d : Document) (r : Run)
       → depth g.registry s v ≤ suc n → write g.registry s v ≡ Ok d → Comes d r → ReadAs g.registry s v (read_shape g rd s from_events r o)
   found_step s None at sep v d r deep e comes =
       absurd (none_written g.registry v d (sym (write_is g.registry s v ∙ ap (λ o. write_by g.registry o v) (no_base g.registry s at)) ∙ e))
   found_step s (Some (transparent_shape i)) at sep v d r deep e comes =
       let inner : suc (depth g.registry i v) ≤ suc n = subst (λ m. m ≤ suc n) (depth_inner g.registry checked s i at v) deep in
-      let (w, whole, alike) = parts i (parts_separable g.registry s (transparent_shape i) sep at i (first_part i [])) v d r (omega (arith, inner)) (sym (write_inner g.registry checked s i at v) ∙ e) comes in
+      let (w, whole, alike) = parts i (parts_separable every_clash g.registry s (transparent_shape i) sep at i (first_part i [])) v d r (omega (arith, inner)) (sym (write_inner g.registry checked s i at v) ∙ e) comes in
       (w, whole, alike_inner g.registry checked s i at v w alike)
   found_step s (Some def) at sep v d r deep e comes = opaque_step s def at refl sep v d r deep e comes
 
-pub law : (g : Setting) → IsRegistry g.registry → (n s : ℕ) → Separable g.registry s → (v : Tree) (d : Document) (r : Run)
+pub law : (g : Setting) → IsRegistry g.registry → (n s : ℕ) → Separable every_clash g.registry s → (v : Tree) (d : Document) (r : Run)
     → depth g.registry s v ≤ n → write g.registry s v ≡ Ok d → Comes d r → ReadAs g.registry s v (read g n s from_events r)
 law g checked zero s sep v d r deep e comes =
     let some_depth = positive g.registry (base g.registry s) v in

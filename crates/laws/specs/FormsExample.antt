@@ -6,11 +6,11 @@ use Rattle.semantics.specs.Events.{no_note, Scalar, null, bool, char, i64, u64, 
 use Rattle.semantics.specs.Runs.{Inside, close, loose, Run, one, group}
 use Rattle.semantics.specs.Calls.{null_literal, bool_literal, char_literal, i64_literal, u64_literal, str_literal}
 use Rattle.semantics.specs.Documents.{free, plain, sequence, object, no_documents, document, no_members, member, on_tape}
-use Rattle.semantics.specs.Typed.{base, on_some, typed}
+use Rattle.semantics.specs.Typed.{typed}
 use Rattle.semantics.specs.Writing.{not_typed, write}
 use Rattle.semantics.specs.Reading.{Setting, from_events, read}
 use Rattle.semantics.specs.Depths.{depth}
-use Rattle.semantics.specs.Validity.{is_null_form}
+use Rattle.semantics.specs.Validity.{may_be_null}
 use Rattle.laws.specs.Example.{shapes}
 
 abbrev pub row : List ℕ → Definition → Shape
@@ -113,5 +113,5 @@ pub record FormsExample : Type 0 where
   pub layer_counts : depth forms wide (unsigned 7) ≡ 2
   pub tuple_depth : depth forms both (structure (tree (char_value 97) (tree (unsigned 7) no_trees))) ≡ 3
   pub through_layers : typed forms wide (unsigned 7) ≡ true
-  pub null_over_null : on_some (base forms maybe) is_null_form ≡ true
-  pub null_over_number : on_some (base forms wide) is_null_form ≡ false
+  pub null_over_null : may_be_null forms maybe ≡ true
+  pub null_over_number : may_be_null forms wide ≡ false

@@ -18,7 +18,7 @@ use Rattle.semantics.specs.Writing.{write}
 use Rattle.semantics.specs.Calling.{Writer, calls_of}
 use Rattle.semantics.specs.Reading.{Setting, Source, from_events, read, Reads}
 use Rattle.semantics.specs.Depths.{depth}
-use Rattle.semantics.specs.Validity.{Separable, Clean, Alike}
+use Rattle.semantics.specs.Validity.{every_clash, Separable, Clean, Alike}
 use Rattle.semantics.specs.Tapes.{document_tape, IsTape, calls_tape}
 use Rattle.semantics.specs.Recoding.{Recodes, IsReadable, IsValid}
 
@@ -56,7 +56,7 @@ CallsWrite = (w : Writer) (shape : ℕ) (value : Tree)
 -- can be read back: it is of the root and clean, no deeper than the budget, and no shape that is reached has a clash.
 pub record Valid (g : Setting) (root budget : ℕ) (input : List Event) (value : Tree) : Type 0 where
   pub checked : IsRegistry g.registry
-  pub separable : Separable g.registry root
+  pub separable : Separable every_clash g.registry root
   pub of_root : IsTrue (typed g.registry root value)
   pub utf8 : IsTrue (tree_is_utf8 value)
   pub clean : Clean g.registry root value
@@ -104,7 +104,7 @@ RecodesToForm = (g : Registry) → IsRegistry g → (root budget : ℕ) (input o
 
 -- The tape of a value's own document is valid, where the value can be read back.
 abbrev pub FormIsValid : Type 0
-FormIsValid = (g : Registry) (root budget : ℕ) (value : Tree) (document : Document) → Separable g root → IsTrue (typed g root value)
+FormIsValid = (g : Registry) (root budget : ℕ) (value : Tree) (document : Document) → Separable every_clash g root → IsTrue (typed g root value)
     → IsTrue (tree_is_utf8 value) → Clean g root value → depth g root value ≤ budget → write g root value ≡ Ok document
     → IsValid g root budget (document_tape document) value document
 

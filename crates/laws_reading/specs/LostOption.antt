@@ -8,7 +8,7 @@ use Rattle.semantics.specs.Documents.{plain}
 use Rattle.semantics.specs.Typed.{typed}
 use Rattle.semantics.specs.Writing.{write}
 use Rattle.semantics.specs.Reading.{Setting, from_events, read}
-use Rattle.semantics.specs.Validity.{Separable}
+use Rattle.semantics.specs.Validity.{every_clash, Separable}
 use Rattle.laws.specs.FormsExample.{forms, maybe, row, a_scalar}
 
 -- the shapes of the other examples, and behind them an option of `Maybe`, which is an option itself
@@ -26,4 +26,4 @@ pub record LosesOption : Type 0 where
   pub of_shape : typed with_outer outer (some none) ≡ true
   pub written : write with_outer outer (some none) ≡ Ok (plain null_literal)
   pub read_back : read outer_setting 3 outer from_events (a_scalar null) ≡ Some none
-  pub not_separable : Separable with_outer outer → ⊥
+  pub not_separable : Separable every_clash with_outer outer → ⊥

@@ -1,5 +1,5 @@
 -- Which shapes and values are read back as they were written.
-use Rattle.std.specs.Prelude.{◌≡◌, ℕ, Bool, true, false, List, [], ◌∷◌, Option, Some, None, Contains}
+use Rattle.std.specs.Prelude.{◌≡◌, ℕ, zero, suc, length, Bool, true, false, List, [], ◌∷◌, Option, Some, None, Contains}
 use Rattle.semantics.specs.Texts.{Phrase}
 use Rattle.semantics.specs.Trees.{Tree, text, some, ok, err, list, structure, Trees, no_trees, tree}
 use Rattle.semantics.specs.Shapes.{unit_type, str_type, is_tuple, Field, Definition, scalar_shape, option_shape, result_shape, list_shape, array_shape, struct_shape, transparent_shape, Registry, definition_at}
@@ -46,28 +46,84 @@ abbrev pub Distinct : List Declared → Type 0
 Distinct [] = Unit {0}
 Distinct (x ∷ xs) = (path_of xs x.item ≡ None) × Distinct xs
 
--- a value may be written as null
-abbrev pub is_null_form : Definition → Bool
-is_null_form (scalar_shape unit_type) = true
-is_null_form (option_shape s) = true
-is_null_form _ = false
+-- a value may be written as null, where `inner` tells it of the shapes that it may be written as itself
+abbrev pub is_null_form : (ℕ → Bool) → Definition → Bool
+is_null_form inner (scalar_shape unit_type) = true
+is_null_form inner (option_shape s) = true
+is_null_form inner _ = false
 
--- What a definition has to keep, that its values can be read back: no key twice under any choice of variants, no option of
--- what may be written as null itself, and no text that has to be borrowed.
-abbrev pub HasNoClash : Registry → Definition → Type 0
-HasNoClash g (struct_shape s) = is_tuple s.kind ≡ false → (c : Choice) → Distinct (keys g (plain_layout s) c)
-HasNoClash g (option_shape s) = on_some (base g s) is_null_form ≡ false
-HasNoClash g (scalar_shape str_type) = ⊥
-HasNoClash g _ = Unit {0}
+-- the same of the shape of a number, looked for through so many shapes
+abbrev pub null_within : Registry → ℕ → ℕ → Bool
+null_within g zero s = false
+null_within g (suc n) s = on_some (base g s) (is_null_form (null_within g n))
+
+-- a value of the shape of a number may be written as null
+abbrev pub may_be_null : Registry → ℕ → Bool
+may_be_null g s = null_within g (length g) s
+
+-- Why the values of a shape can't all be read back from what they are written as.
+pub data Clash : Type 0 where
+  -- two keys of one text, under some choice of variants
+  repeated_key : Clash
+  -- an option of what may be written as null itself
+  option_over_null : Clash
+  -- a field isn't written whose value isn't its fill
+  skip_loses_value : Clash
+  -- a variant that has no form beside an internal tag
+  no_written_form : Clash
+  -- a flattened variant that is a tuple of another length than 1
+  unreadable_form : Clash
+  -- a map whose keys are no texts and no whole numbers
+  other_map_key : Clash
+  -- a set of items that are more than scalars
+  other_set_item : Clash
+  -- an enum whose variants are told apart by their content alone
+  untagged_variants : Clash
+  -- a text that has to be borrowed
+  borrowed_text : Clash
+
+-- no two keys of an object have one text, whatever the choice of variants
+abbrev pub HasDistinctKeys : Registry → Definition → Type 0
+HasDistinctKeys g (struct_shape s) = is_tuple s.kind ≡ false → (c : Choice) → Distinct (keys g (plain_layout s) c)
+HasDistinctKeys g _ = Unit {0}
+
+-- no option holds what may be written as null itself
+abbrev pub HoldsNoNull : Registry → Definition → Type 0
+HoldsNoNull g (option_shape s) = may_be_null g s ≡ false
+HoldsNoNull g _ = Unit {0}
+
+-- no text has to be borrowed
+abbrev pub OwnsTexts : Definition → Type 0
+OwnsTexts (scalar_shape str_type) = ⊥
+OwnsTexts _ = Unit {0}
+
+-- What a definition has to keep, that it has no such clash. The clashes of forms that aren't built ask for nothing yet.
+abbrev pub IsFreeOf : Clash → Registry → Definition → Type 0
+IsFreeOf repeated_key g d = HasDistinctKeys g d
+IsFreeOf option_over_null g d = HoldsNoNull g d
+IsFreeOf borrowed_text g d = OwnsTexts d
+IsFreeOf _ g d = Unit {0}
+
+-- which clashes are barred
+abbrev pub Bars : Type 0
+Bars = Clash → Bool
+
+-- each of them
+abbrev pub every_clash : Bars
+every_clash k = true
+
+-- a definition has none of the clashes that are barred
+abbrev pub HasNoClash : Bars → Registry → Definition → Type 0
+HasNoClash bars g d = (k : Clash) → bars k ≡ true → IsFreeOf k g d
 
 -- a shape that is there has no clash
-abbrev pub IsApart : Registry → Option Definition → Type 0
-IsApart g None = Unit {0}
-IsApart g (Some d) = HasNoClash g d
+abbrev pub IsApart : Bars → Registry → Option Definition → Type 0
+IsApart bars g None = Unit {0}
+IsApart bars g (Some d) = HasNoClash bars g d
 
--- no shape that is reached from the root has a clash
-abbrev pub Separable : Registry → ℕ → Type 0
-Separable g root = (s : ℕ) → Reached g root s → IsApart g (definition_at g s)
+-- no shape that is reached from the root has a clash that is barred
+abbrev pub Separable : Bars → Registry → ℕ → Type 0
+Separable bars g root = (s : ℕ) → Reached g root s → IsApart bars g (definition_at g s)
 
 -- A value is clean where each field that is never written holds its fill. No field is left out yet.
 abbrev pub Clean : Registry → ℕ → Tree → Type 0
