@@ -5,7 +5,7 @@ use Rattle.std.proofs.lemmas.Option.{slice_get-map, slice_get_within}
 use Rattle.std.specs.Prelude.{slice_get}
 use Rattle.std.specs.List.{list_any, AllByRecursion as Every}
 use Rattle.semantics.specs.Shapes.{Field, StructShape, Definition, struct_shape, transparent_shape, Shape, Draft, Registry, definition_of, definition_at}
-use Rattle.semantics.specs.Registry.{not_built, never_skips, has_attribute, is_unbuilt, is_not_built, Rule, rules_of, first_broken, fault_of, lies_on_cycle, drafted, IsRegistry}
+use Rattle.semantics.specs.Registry.{not_built, never_skips, has_attribute, is_unbuilt, is_not_built, Rule, rules_of, first_broken, fault_of, lies_on_cycle, drafted, completed, completed_shapes, IsRegistry}
 use Rattle.semantics.specs.Typed.{through, base_within, base, struct_of, struct_at}
 
 -- a field that can be read and written
@@ -14,6 +14,14 @@ pub record BuiltField (f : Field) : Type 0 where
   pub alias : f.alias ≡ None
   pub default : f.default ≡ None
   pub flattened : f.flattened ≡ false
+
+completed_each : (n : ℕ) (g : Registry) → map (completed n) (map drafted g) ≡ g
+completed_each n [] = refl
+completed_each n (x ∷ g) = ap (λ l. x ∷ l) (completed_each n g)
+
+-- the shapes of a registry, as drafts, are typed by themselves
+pub completed_same : (g : Registry) → completed_shapes (map drafted g) ≡ g
+completed_same g = completed_each (length (map drafted g)) g
 
 -- a struct that can be read and written
 pub record BuiltStruct (s : StructShape) : Type 0 where

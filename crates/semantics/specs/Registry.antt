@@ -1,5 +1,5 @@
 -- The checked registry: the rules that its shapes keep, each with the name of the fault where it is broken.
-use Rattle.std.specs.Prelude.{◌≡◌, ℕ, zero, suc, ◌<◌, ◌≤◌, ◌==◌, nat_lt, List, [], ◌∷◌, length, map, take, Bool, true, false, ◌||◌, ◌&&◌, not, if◌then◌else◌, Option, Some, None, option_and_then, is_some, slice_get, bytes_eq, IsTrue}
+use Rattle.std.specs.Prelude.{◌≡◌, ℕ, zero, suc, ◌<◌, ◌≤◌, ◌==◌, nat_lt, List, [], ◌∷◌, length, map, take, Bool, true, false, ◌||◌, ◌&&◌, not, if◌then◌else◌, Option, Some, None, option_and_then, is_some, unwrap_or, slice_get, bytes_eq, IsTrue}
 use Rattle.std.specs.List.{list_any, list_all}
 use Rattle.std.specs.Option.{option_map_or}
 use Rattle.std.specs.Fmt.{decimal}
@@ -253,6 +253,14 @@ shape_is_utf8 s = is_utf8 s.name && definition_is_utf8 s.definition
 -- the shape as a draft whose definition is there
 abbrev pub drafted : Shape → Draft
 drafted s = record { name = s.name; definition = Some s.definition; proxy = s.proxy }
+
+-- A draft as a shape. One without a definition leads to a number that isn't there, so no value is of it.
+abbrev pub completed : ℕ → Draft → Shape
+completed count d = record { name = d.name; definition = unwrap_or d.definition (transparent_shape count); proxy = d.proxy }
+
+-- The drafts as shapes, by which values are typed before the registry is checked: those that fields and structs declare.
+abbrev pub completed_shapes : List Draft → Registry
+completed_shapes ds = map (completed (length ds)) ds
 
 -- A checked registry: it begins with the scalars, keeps each rule, and its names are texts.
 pub record IsRegistry (g : Registry) : Type 0 where
