@@ -156,10 +156,10 @@ pub struct_read : (g : Registry) (rd : Reader) (c : Choice) (deny : Bool) (l : L
     → Mixes Carried (member_list ms) es → (ws : Trees) × (read_struct g rd c deny l es ≡ Some (structure ws)) × FieldsAlike g l.fields vs ws
 struct_read g rd c deny l vs ms es distinct own good e order =
     let plan = plan_of g c deny l in
-    let (declared, places) = fields_placed g plan [] (flat_keys g (length g)) l.whole c 0 l.fields vs ms (λ x h. first_found (keys g l c) x distinct h) own e in
+    let (declared, places) = fields_placed g plan [] (flat_keys g l.whole (length g)) l.whole c 0 l.fields vs ms (λ x h. first_found (keys g l c) x distinct h) own e in
     let leading = mixes_every Carried (IsDeclared plan) (Leads plan) (carried_leads plan) (member_list ms) es order declared in
     let mixed = mixes_filter Carried SamePlace (place_member plan) (place_entry plan) (places_agree plan) (member_list ms) es order in
-    let (ws, read, alike) = fields_back g rd (read_flat g (by_run rd) (length g)) l.whole c 0 l.fields vs ms (fields_places g 0 l.fields vs) (filter_map (place_entry plan) es)
+    let (ws, read, alike) = fields_back g rd (read_flat g (by_run rd) l.whole (length g)) l.whole c 0 l.fields vs ms (fields_places g 0 l.fields vs) (filter_map (place_entry plan) es)
     (subst (λ q. Mixes SamePlace q (filter_map (place_entry plan) es)) (places ∙ none_prefixed (fields_places g 0 l.fields vs)) mixed) (λ i le. refl) own good e in (
       ws,
       ap (λ b. cond b (option_map structure (read_layout g (by_run rd) c l (placed plan 0 es))) None) (allowed plan 0 es leading)

@@ -219,7 +219,7 @@ module _ (g : Setting) (checked : IsRegistry g.registry) (rd : Reader) (parts : 
       let (es, mean) = object_read (read_struct g.registry rd [] d.deny (plain_layout d)) r v e in
       let (xs, vs, read_all, value) = struct_inverted g.registry rd [] d.deny (plain_layout d) es v mean in
       structure_typed s d is vs v value
-      (fields_are_typed g.registry (by_run rd) (λ t x w h. parts t _ x.run w h) (read_flat g.registry (by_run rd) (length g.registry)) false [] 0 d.fields xs vs (filled d.fields fields) read_all)
+      (fields_are_typed g.registry (by_run rd) (λ t x w h. parts t _ x.run w h) (read_flat g.registry (by_run rd) false (length g.registry)) false [] 0 d.fields xs vs (filled d.fields fields) read_all)
 
   struct_typed : (s : ℕ) (d : StructShape) → base g.registry s ≡ Some (struct_shape d) → Every BuiltField d.fields → (r : Run) (v : Tree) (b : Bool)
       → cond b (read_tuple g.registry rd d r) (read_object (read_struct g.registry rd [] d.deny (plain_layout d)) r) ≡ Some v → typed g.registry s v ≡ true

@@ -99,9 +99,9 @@ module _ (span : Span) where
     abbrev spot : Spot
     spot = record { shape = shape; path = p; input = here span }
 
-    at_flat : (n : ℕ) (d : Option Definition) (c : Choice) (f : Field) (xs : List (Placed Told)) → At span (gather_flat g n d c (inner_spot f spot) xs)
-    at_flat zero d c f xs = at_never _ (here span) span
-    at_flat (suc n) d c f xs = at_never _ (here span) span
+    at_flat : (whole : Bool) (n : ℕ) (d : Option Definition) (c : Choice) (f : Field) (xs : List (Placed Told)) → At span (gather_flat g whole n d c (inner_spot f spot) xs)
+    at_flat whole zero d c f xs = at_never _ (here span) span
+    at_flat whole (suc n) d c f xs = at_never _ (here span) span
 
     at_own : (f : Field) (xs : List (Placed Told)) → At span (gather_own g f spot xs)
     at_own f [] = by_fill (fill g f)
@@ -112,18 +112,18 @@ module _ (span : Span) where
     at_own f (x ∷ []) = at_ok span _
     at_own f (x ∷ y ∷ xs) = at_never p (here span) span
 
-    at_field : (whole : Bool) (c : Choice) (f : Field) (xs : List (Placed Told)) → At span (gather_field (gather_flat g (length g)) g whole c f spot xs)
+    at_field : (whole : Bool) (c : Choice) (f : Field) (xs : List (Placed Told)) → At span (gather_field (gather_flat g whole (length g)) g whole c f spot xs)
     at_field whole c f xs = by_parts (in_parts whole f (has_whole xs))
       where
-        by_parts : (b : Bool) → At span (cond b (gather_flat g (length g) (definition_at g f.shape) c (inner_spot f spot) xs) (gather_own g f spot xs))
-        by_parts true = at_flat (length g) (definition_at g f.shape) c f xs
+        by_parts : (b : Bool) → At span (cond b (gather_flat g whole (length g) (definition_at g f.shape) c (inner_spot f spot) xs) (gather_own g f spot xs))
+        by_parts true = at_flat whole (length g) (definition_at g f.shape) c f xs
         by_parts false = at_own f xs
 
-    at_fields : (whole : Bool) (c : Choice) (k : ℕ) (fs : List Field) (xs : List (Placed Told)) → At span (gather_fields (gather_flat g (length g)) g whole c spot k fs xs)
+    at_fields : (whole : Bool) (c : Choice) (k : ℕ) (fs : List Field) (xs : List (Placed Told)) → At span (gather_fields (gather_flat g whole (length g)) g whole c spot k fs xs)
     at_fields whole c k [] xs = at_ok span _
     at_fields whole c k (f ∷ fs) xs =
-        at_bind span (gather_field (gather_flat g (length g)) g whole (below k c) f spot (below k xs)) _ (at_field whole (below k c) f (below k xs))
-        (λ v. at_bind span (gather_fields (gather_flat g (length g)) g whole c spot (suc k) fs xs) (with_tree v) (at_fields whole c (suc k) fs xs) (λ vs. at_ok span _))
+        at_bind span (gather_field (gather_flat g whole (length g)) g whole (below k c) f spot (below k xs)) _ (at_field whole (below k c) f (below k xs))
+        (λ v. at_bind span (gather_fields (gather_flat g whole (length g)) g whole c spot (suc k) fs xs) (with_tree v) (at_fields whole c (suc k) fs xs) (λ vs. at_ok span _))
 
   module _ (t : Terms) where
     at_await : (n s : ℕ) (source : Source) (fs : Frames) → At span (await t n s source fs span)

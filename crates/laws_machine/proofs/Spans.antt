@@ -52,9 +52,9 @@ module _ (g : Registry) (shape : ℕ) (p : List Step) (input : Input) where
   abbrev there : Input → Spot
   there i = record { shape = shape; path = p; input = i }
 
-  flat_here : (n : ℕ) (d : Option Definition) (c : Choice) (f : Field) (xs : List (At Told)) → gather_flat g n d c (inner_spot f (there input)) xs ≡ gather_flat g n d c (inner_spot f (there (here input.last))) xs
-  flat_here zero d c f xs = refl
-  flat_here (suc n) d c f xs = refl
+  flat_here : (whole : Bool) (n : ℕ) (d : Option Definition) (c : Choice) (f : Field) (xs : List (At Told)) → gather_flat g whole n d c (inner_spot f (there input)) xs ≡ gather_flat g whole n d c (inner_spot f (there (here input.last))) xs
+  flat_here whole zero d c f xs = refl
+  flat_here whole (suc n) d c f xs = refl
 
   own_here : (f : Field) (xs : List (At Told)) → gather_own g f (there input) xs ≡ gather_own g f (there (here input.last)) xs
   own_here f [] = by_fill (fill g f)
@@ -65,20 +65,20 @@ module _ (g : Registry) (shape : ℕ) (p : List Step) (input : Input) where
   own_here f (x ∷ []) = refl
   own_here f (x ∷ y ∷ xs) = refl
 
-  field_here : (whole : Bool) (c : Choice) (f : Field) (xs : List (At Told)) → gather_field (gather_flat g (length g)) g whole c f (there input) xs ≡ gather_field (gather_flat g (length g)) g whole c f (there (here input.last)) xs
+  field_here : (whole : Bool) (c : Choice) (f : Field) (xs : List (At Told)) → gather_field (gather_flat g whole (length g)) g whole c f (there input) xs ≡ gather_field (gather_flat g whole (length g)) g whole c f (there (here input.last)) xs
   field_here whole c f xs = by_parts (in_parts whole f (has_whole xs))
     where
-      by_parts : (b : Bool) → cond b (gather_flat g (length g) (definition_at g f.shape) c (inner_spot f (there input)) xs) (gather_own g f (there input) xs)
-          ≡ cond b (gather_flat g (length g) (definition_at g f.shape) c (inner_spot f (there (here input.last))) xs) (gather_own g f (there (here input.last)) xs)
-      by_parts true = flat_here (length g) (definition_at g f.shape) c f xs
+      by_parts : (b : Bool) → cond b (gather_flat g whole (length g) (definition_at g f.shape) c (inner_spot f (there input)) xs) (gather_own g f (there input) xs)
+          ≡ cond b (gather_flat g whole (length g) (definition_at g f.shape) c (inner_spot f (there (here input.last))) xs) (gather_own g f (there (here input.last)) xs)
+      by_parts true = flat_here whole (length g) (definition_at g f.shape) c f xs
       by_parts false = own_here f xs
 
   fields_here : (whole : Bool) (c : Choice) (k : ℕ) (fs : List Field) (xs : List (At Told))
-      → gather_fields (gather_flat g (length g)) g whole c (there input) k fs xs ≡ gather_fields (gather_flat g (length g)) g whole c (there (here input.last)) k fs xs
+      → gather_fields (gather_flat g whole (length g)) g whole c (there input) k fs xs ≡ gather_fields (gather_flat g whole (length g)) g whole c (there (here input.last)) k fs xs
   fields_here whole c k [] xs = refl
   fields_here whole c k (f ∷ fs) xs =
-      ap (λ r. r >>= λ v. gather_fields (gather_flat g (length g)) g whole c (there input) (suc k) fs xs >>= with_tree v) (field_here whole (below k c) f (below k xs))
-      ∙ by_first (gather_field (gather_flat g (length g)) g whole (below k c) f (there (here input.last)) (below k xs)) (fields_here whole c (suc k) fs xs)
+      ap (λ r. r >>= λ v. gather_fields (gather_flat g whole (length g)) g whole c (there input) (suc k) fs xs >>= with_tree v) (field_here whole (below k c) f (below k xs))
+      ∙ by_first (gather_field (gather_flat g whole (length g)) g whole (below k c) f (there (here input.last)) (below k xs)) (fields_here whole c (suc k) fs xs)
     where
       by_first : {a b : Result Trees Fault} (r : Result Tree Fault) → a ≡ b → (r >>= λ v. a >>= with_tree v) ≡ (r >>= λ v. b >>= with_tree v)
       by_first (Ok v) same = ap (λ z. z >>= with_tree v) same

@@ -193,7 +193,7 @@ module _ (terms : Terms) (n s : ℕ) (source : Source) (d : StructShape)
     missing_fails : (end : Note) (rest : List Event) (got : Got) → Holding more got → gathered g [] (plain_layout d) s got path (feed rest ending end.span) ≡ Err f → Why (front ++ (stop of_struct end ∷ rest))
     missing_fails end rest got (keeps, spanned, apart) told =
         let spot : Spot = record { shape = s; path = path; input = feed rest ending end.span } in
-        elim (bind_err (gather_fields (gather_flat g (length g)) g false [] spot 0 d.fields got.values) as_structure f told) [
+        elim (bind_err (gather_fields (gather_flat g false (length g)) g false [] spot 0 d.fields got.values) as_structure f told) [
           | inl x ↦
               let l = gather_lacks g false [] spot (length g) 0 d.fields got.values f fine apart x in
               missing_at l.field.name s end.span path l.is (inl (record {

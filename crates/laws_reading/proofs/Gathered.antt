@@ -48,12 +48,12 @@ module _ (g : Registry) (whole : Bool) where
       trees_ok (gather_field gather g whole (below k c) f spot (below k xs)) (gather_fields gather g whole c spot (suc k) fs xs)
       ∙ ap₂ and_trees (field_ok gather flat inner (below k c) f spot (below k xs)) (fields_ok gather flat inner c spot (suc k) fs xs)
 
-  flat_ok : (n : ℕ) → Gathered (gather_flat g n) (read_flat g kept n)
+  flat_ok : (n : ℕ) → Gathered (gather_flat g whole n) (read_flat g kept whole n)
   flat_ok zero d c spot xs = refl
   flat_ok (suc n) d c spot xs = refl
 
 pub gathered_ok : (g : Registry) (c : Choice) (l : Layout) (shape : ℕ) (s : Got) (path : List Step) (input : Input) → ok_of (gathered g c l shape s path input) ≡ option_map structure (read_layout g kept c l s.values)
 gathered_ok g c l shape s path input =
     let spot : Spot = record { shape = shape; path = path; input = input } in
-    structure_ok (gather_fields (gather_flat g (length g)) g l.whole c spot 0 l.fields s.values)
-    ∙ ap (option_map structure) (fields_ok g l.whole (gather_flat g (length g)) (read_flat g kept (length g)) (flat_ok g l.whole (length g)) c spot 0 l.fields s.values)
+    structure_ok (gather_fields (gather_flat g l.whole (length g)) g l.whole c spot 0 l.fields s.values)
+    ∙ ap (option_map structure) (fields_ok g l.whole (gather_flat g l.whole (length g)) (read_flat g kept l.whole (length g)) (flat_ok g l.whole (length g)) c spot 0 l.fields s.values)

@@ -61,9 +61,9 @@ pub record IsField (g : Registry) (l : Layout) (p : Path) (s : End) : Type 0 whe
   pub end : s ≡ one_of field.shape
   pub steps : steps_at g l p ≡ field_step field.name ∷ []
 
-flat_none : (g : Registry) (n : ℕ) (d : Option Definition) (c : Choice) (p : Path) → leaf_flat g n d c p ≡ None
-flat_none g zero d c p = refl
-flat_none g (suc n) d c p = refl
+flat_none : (g : Registry) (whole : Bool) (n : ℕ) (d : Option Definition) (c : Choice) (p : Path) → leaf_flat g whole n d c p ≡ None
+flat_none g whole zero d c p = refl
+flat_none g whole (suc n) d c p = refl
 
 flat_nowhere : (g : Registry) (n : ℕ) (d : Option Definition) (p : Path) → flat_steps g n d p ≡ []
 flat_nowhere g zero d p = refl
@@ -84,12 +84,12 @@ leaf_is g c l (k ∷ p) s e = by_field (slice_get l.fields k) refl e
     }
     by_end f is (j ∷ p') at e = absurd cc
 
-    by_field : (o : Option Field) → slice_get l.fields k ≡ o → leaf_found (leaf_flat g (length g)) g l.whole (below k c) o p ≡ Some s → IsField g l (k ∷ p) s
+    by_field : (o : Option Field) → slice_get l.fields k ≡ o → leaf_found (leaf_flat g l.whole (length g)) g l.whole (below k c) o p ≡ Some s → IsField g l (k ∷ p) s
     by_field None is e = absurd cc
     by_field (Some f) is e = by_test (in_parts l.whole f (is_end p)) e
       where
-        by_test : (b : Bool) → cond b (leaf_flat g (length g) (definition_at g f.shape) (below k c) p) (leaf_end (Some (one_of f.shape)) p) ≡ Some s → IsField g l (k ∷ p) s
-        by_test true e = let none = flat_none g (length g) (definition_at g f.shape) (below k c) p in absurd cc
+        by_test : (b : Bool) → cond b (leaf_flat g l.whole (length g) (definition_at g f.shape) (below k c) p) (leaf_end (Some (one_of f.shape)) p) ≡ Some s → IsField g l (k ∷ p) s
+        by_test true e = let none = flat_none g l.whole (length g) (definition_at g f.shape) (below k c) p in absurd cc
         by_test false e = by_end f is p refl e
 
 -- at most one thing
@@ -159,15 +159,15 @@ module _ (g : Registry) (whole : Bool) (c : Choice) (spot : Spot) where
   }
 
   pub gather_lacks : (n k : ℕ) (fs : List Field) (xs : List (At Told)) (f : Fault) → Every BuiltField fs → Apart xs
-      → gather_fields (gather_flat g n) g whole c spot k fs xs ≡ Err f → Lacks g fs k xs spot f
+      → gather_fields (gather_flat g whole n) g whole c spot k fs xs ≡ Err f → Lacks g fs k xs spot f
   gather_lacks n k [] xs f fine apart e = absurd cc
   gather_lacks n k (field ∷ fs) xs f (here, fine) apart e =
-      elim (bind_err (gather_field (gather_flat g n) g whole (below k c) field spot (below k xs)) (λ v. gather_fields (gather_flat g n) g whole c spot (suc k) fs xs >>= with_tree v) f e) [
+      elim (bind_err (gather_field (gather_flat g whole n) g whole (below k c) field spot (below k xs)) (λ v. gather_fields (gather_flat g whole n) g whole c spot (suc k) fs xs >>= with_tree v) f e) [
         | inl x ↦
             own_lacks field fs k xs f (below k xs) refl (apart k)
-            (sym (ap (λ b. cond (b && not (whole && has_whole (below k xs))) (gather_flat g n (definition_at g field.shape) (below k c) (inner_spot field spot) (below k xs)) (gather_own g field spot (below k xs))) here.flattened) ∙ x)
+            (sym (ap (λ b. cond (b && not (whole && has_whole (below k xs))) (gather_flat g whole n (definition_at g field.shape) (below k c) (inner_spot field spot) (below k xs)) (gather_own g field spot (below k xs))) here.flattened) ∙ x)
         | inr z ↦
-            elim (bind_err (gather_fields (gather_flat g n) g whole c spot (suc k) fs xs) (with_tree z.0) f z.2) [
+            elim (bind_err (gather_fields (gather_flat g whole n) g whole c spot (suc k) fs xs) (with_tree z.0) f z.2) [
               | inl y ↦ later_lacks field fs k xs f (gather_lacks n (suc k) fs xs f fine apart y)
               | inr w ↦ absurd (let no_fault = w.2 in cc)
             ]

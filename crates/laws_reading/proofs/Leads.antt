@@ -63,7 +63,7 @@ module _ (g : Registry) (whole : Bool) where
       by_test true false same = leads_under ends (leaf (definition_at g f.shape) (below k c)) k same (inner (definition_at g f.shape) (below k c)) (flat (definition_at g f.shape) (below k c))
       by_test false m same = own (same [])
 
-  flat_leads : (n : ℕ) → FlatLeads (flat_keys g n) (leaf_flat g n)
+  flat_leads : (n : ℕ) → FlatLeads (flat_keys g whole n) (leaf_flat g whole n)
   flat_leads zero d c = tt
   flat_leads (suc n) d c = tt
 
@@ -100,7 +100,7 @@ module _ (g : Registry) (whole : Bool) where
       by_test true m same e rec = by_inner m (inner (definition_at g f.shape) (below k c)) refl same e rec
       by_test false m same e rec = rec e
 
-  flat_strays : (n : ℕ) → FlatStray (flat_stray g n) (leaf_flat g n)
+  flat_strays : (n : ℕ) → FlatStray (flat_stray g n) (leaf_flat g whole n)
   flat_strays zero d c p e = absurd cc
   flat_strays (suc n) d c p e = absurd cc
 
@@ -109,9 +109,9 @@ pub key_leads : (g : Registry) (c : Choice) (deny : Bool) (l : Layout) (n : ℕ)
 key_leads g c deny l n (named t m note) p e allowed = by_key (path_of (keys g l c) t.bytes) refl e
   where
     by_key : (o : Option Path) → path_of (keys g l c) t.bytes ≡ o → or_path o (stray_by g (flat_stray g (length g)) c 0 l.fields) ≡ Some p → (s : End) × (leaf_at g c l p ≡ Some s)
-    by_key None is e = fields_stray g l.whole (flat_stray g (length g)) (leaf_flat g (length g)) (flat_strays g l.whole (length g)) c (leaf_at g c l) 0 l.fields (covers_all g l.whole (leaf_flat g (length g)) c l.fields) p e
+    by_key None is e = fields_stray g l.whole (flat_stray g (length g)) (leaf_flat g l.whole (length g)) (flat_strays g l.whole (length g)) c (leaf_at g c l) 0 l.fields (covers_all g l.whole (leaf_flat g l.whole (length g)) c l.fields) p e
     by_key (Some q) is e =
         let same : q ≡ p = cc in
-        path_leads (leaf_at g c l) (keys g l c) t.bytes p (fields_lead g l.whole (flat_keys g (length g)) (leaf_flat g (length g)) (flat_leads g l.whole (length g)) c (leaf_at g c l) 0 l.fields (covers_all g l.whole (leaf_flat g (length g)) c l.fields)) (is ∙ ap (λ z. Some z) same)
+        path_leads (leaf_at g c l) (keys g l c) t.bytes p (fields_lead g l.whole (flat_keys g l.whole (length g)) (leaf_flat g l.whole (length g)) (flat_leads g l.whole (length g)) c (leaf_at g c l) 0 l.fields (covers_all g l.whole (leaf_flat g l.whole (length g)) c l.fields)) (is ∙ ap (λ z. Some z) same)
 key_leads g c deny l n (nameless m note) p e allowed = absurd cc
 key_leads g c deny l n (ordered note) p e allowed = absurd cc

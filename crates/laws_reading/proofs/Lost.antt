@@ -15,9 +15,9 @@ LostIn rd e r p xs = (rd.value_of e.shape r ≡ None) ⊎ ((not e.many && (has_w
 abbrev pub IsApart : FlatLeaf → Type 0
 IsApart leaf = (d : Option Definition) (c : Choice) (k : ℕ) (p : Path) (a b : End) → leaf d c [] ≡ Some a → leaf d c (k ∷ p) ≡ Some b → ⊥
 
-flat_apart : (g : Registry) (n : ℕ) → IsApart (leaf_flat g n)
-flat_apart g zero d c k p a b e e' = cc
-flat_apart g (suc n) d c k p a b e e' = cc
+flat_apart : (g : Registry) (whole : Bool) (n : ℕ) → IsApart (leaf_flat g whole n)
+flat_apart g whole zero d c k p a b e e' = cc
+flat_apart g whole (suc n) d c k p a b e e' = cc
 
 whole_filled : {A : Type 0} (xs : List (At A)) → has_whole xs ≡ true → is_filled xs ≡ true
 whole_filled [] e = absurd cc
@@ -123,11 +123,11 @@ module _ {A : Type 0} (g : Registry) (rd : Parts A) (whole : Bool) where
           (ap (read_field flat g rd whole (below k c) f) (below_among k p r xs ys)
           ∙ field_lost leaf flat apart inner f (below k c) p s r e (below k xs) (below k ys) (below k zs) (subst (λ o. Kept (λ p. leaf_found leaf g whole (below k c) o p) rd (below k xs) (below k zs)) is h) lost)
 
-  flat_lost : (n : ℕ) → FlatLost (leaf_flat g n) (read_flat g rd n)
+  flat_lost : (n : ℕ) → FlatLost (leaf_flat g whole n) (read_flat g rd whole n)
   flat_lost zero d c p s r e xs ys zs h lost = absurd cc
   flat_lost (suc n) d c p s r e xs ys zs h lost = absurd cc
 
 -- nothing is read of an object with such an entry
 pub layout_lost : {A : Type 0} (g : Registry) (rd : Parts A) (c : Choice) (l : Layout) (p : Path) (s : End) (r : A) → leaf_at g c l p ≡ Some s → (xs ys : List (At A)) (zs : List (At Told)) → Kept (leaf_at g c l) rd xs zs → Lost rd s r p xs
     → read_layout g rd c l (xs ++ (placed_at p r ∷ ys)) ≡ None
-layout_lost g rd c l p s r e xs ys zs h lost = fields_lost g rd l.whole (leaf_flat g (length g)) (read_flat g rd (length g)) (flat_apart g (length g)) (flat_lost g rd l.whole (length g)) l.fields c p s r e xs ys zs h lost
+layout_lost g rd c l p s r e xs ys zs h lost = fields_lost g rd l.whole (leaf_flat g l.whole (length g)) (read_flat g rd l.whole (length g)) (flat_apart g l.whole (length g)) (flat_lost g rd l.whole (length g)) l.fields c p s r e xs ys zs h lost

@@ -61,10 +61,10 @@ module _ {A : Type 0} (g : Registry) (rd : Parts A) (whole : Bool) where
       (kept_as (λ p. ends (k ∷ p)) rd (leaf_field leaf g whole (below k c) f) (covers_first g whole leaf c ends k f fs covers) (below k xs) (below k ys) (kept_below ends rd k xs ys h)))
       (fields_same leaf flat again inner c ends (suc k) fs (covers_next g whole leaf c ends k f fs covers) xs ys h)
 
-  flat_same : (n : ℕ) → FlatSame (leaf_flat g n) (read_flat g rd n) (read_flat g kept n)
+  flat_same : (n : ℕ) → FlatSame (leaf_flat g whole n) (read_flat g rd whole n) (read_flat g kept whole n)
   flat_same zero d c xs ys h = refl
   flat_same (suc n) d c xs ys h = refl
 
 pub layout_same : {A : Type 0} (g : Registry) (rd : Parts A) (c : Choice) (l : Layout) (xs : List (At A)) (ys : List (At Told)) → Kept (leaf_at g c l) rd xs ys → read_layout g rd c l xs ≡ read_layout g kept c l ys
 layout_same g rd c l xs ys h =
-    fields_same g rd l.whole (leaf_flat g (length g)) (read_flat g rd (length g)) (read_flat g kept (length g)) (flat_same g rd l.whole (length g)) c (leaf_at g c l) 0 l.fields (covers_all g l.whole (leaf_flat g (length g)) c l.fields) xs ys h
+    fields_same g rd l.whole (leaf_flat g l.whole (length g)) (read_flat g rd l.whole (length g)) (read_flat g kept l.whole (length g)) (flat_same g rd l.whole (length g)) c (leaf_at g c l) 0 l.fields (covers_all g l.whole (leaf_flat g l.whole (length g)) c l.fields) xs ys h

@@ -57,13 +57,13 @@ leaf_in inner g whole c fs [] = None
 leaf_in inner g whole c fs (k ∷ p) = leaf_found inner g whole (below k c) (slice_get fs k) p
 
 -- Within so many layers. No shape can be flattened yet.
-abbrev pub leaf_flat : Registry → ℕ → FlatLeaf
-leaf_flat g zero d c p = None
-leaf_flat g (suc n) d c p = None
+abbrev pub leaf_flat : Registry → Bool → ℕ → FlatLeaf
+leaf_flat g whole zero d c p = None
+leaf_flat g whole (suc n) d c p = None
 
 -- where the paths of an object end
 abbrev pub leaf_at : Registry → Choice → Layout → Path → Option End
-leaf_at g c l p = leaf_in (leaf_flat g (length g)) g l.whole c l.fields p
+leaf_at g c l p = leaf_in (leaf_flat g l.whole (length g)) g l.whole c l.fields p
 
 -- the steps to the parts of a flattened shape
 abbrev pub FlatSteps : Type 0
@@ -177,9 +177,9 @@ gather_fields flat g whole c spot k [] xs = Ok no_trees
 gather_fields flat g whole c spot k (f ∷ fs) xs = gather_field flat g whole (below k c) f spot (below k xs) >>= λ v. gather_fields flat g whole c spot (suc k) fs xs >>= with_tree v
 
 -- Within so many layers. No shape can be flattened yet.
-abbrev pub gather_flat : Registry → ℕ → Gathers
-gather_flat g zero d c spot xs = never spot.path spot.input
-gather_flat g (suc n) d c spot xs = never spot.path spot.input
+abbrev pub gather_flat : Registry → Bool → ℕ → Gathers
+gather_flat g whole zero d c spot xs = never spot.path spot.input
+gather_flat g whole (suc n) d c spot xs = never spot.path spot.input
 
 abbrev pub as_structure : Trees → Result Tree Fault
 as_structure vs = Ok (structure vs)
@@ -187,7 +187,7 @@ as_structure vs = Ok (structure vs)
 -- the struct of what was read, where what is absent is filled
 abbrev pub gathered : Registry → Choice → Layout → ℕ → Finish Got
 gathered g c l shape s path input =
-    gather_fields (gather_flat g (length g)) g l.whole c (record { shape = shape; path = path; input = input }) 0 l.fields s.values >>= as_structure
+    gather_fields (gather_flat g l.whole (length g)) g l.whole c (record { shape = shape; path = path; input = input }) 0 l.fields s.values >>= as_structure
 
 -- a struct of this shape, under a choice of variants
 abbrev pub struct_at : Registry → ReadsPart → Choice → Bool → Layout → ℕ → Reads Tree

@@ -127,7 +127,7 @@ module _ (g : Registry) (checked : IsRegistry g) (s : ℕ) (got : Got) (p : List
   whole = gathered g [] (record { fields = fields_at g s; whole = false }) s got p (here span)
 
   whole_is : whole ≡ ((read >>= as_trees) >>= as_structure)
-  whole_is = sym (ap (λ z. z >>= as_structure) (all_values g (gather_flat g (length g)) s p span (fields_at g s) 0 [] got.values (all_built g checked s) ∙ behind_none _))
+  whole_is = sym (ap (λ z. z >>= as_structure) (all_values g (gather_flat g false (length g)) s p span (fields_at g s) 0 [] got.values (all_built g checked s) ∙ behind_none _))
 
   pub gathered_is : (vs : List Tree) → read ≡ Ok vs → whole ≡ Ok (structure (trees_of vs))
   gathered_is vs is = whole_is ∙ ap (λ z. (z >>= as_trees) >>= as_structure) is

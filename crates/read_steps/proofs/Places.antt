@@ -31,7 +31,7 @@ taken_some [] xs = filled_some xs
 taken_some (k ∷ p) xs = ap₂ (λ a b. a || b) (whole_some (below k xs)) (taken_some p (below k xs)) ∙ either_some (whole_span (below k xs)) (taken_span p (below k xs))
 
 -- a flattened shape has no keys yet
-no_keys : (g : Registry) (n : ℕ) → (k : ℕ) (f : Field) (c : Choice) → map (under k) (flat_keys g n (definition_at g f.shape) c) ≡ []
+no_keys : (g : Registry) (n : ℕ) → (k : ℕ) (f : Field) (c : Choice) → map (under k) (flat_keys g false n (definition_at g f.shape) c) ≡ []
 no_keys g zero k f c = refl
 no_keys g (suc n) k f c = refl
 
@@ -67,17 +67,17 @@ module _ (g : Registry) (n : ℕ) (t : List ℕ) where
   map_cond false k o = refl
 
   -- the first key of a text is that of the first field that is read under it
-  path_place : (c : Choice) (k : ℕ) (fs : List Field) → path_of (keys_by g (flat_keys g n) false c k fs) t ≡ option_map alone (position_from (is_called t) k fs)
+  path_place : (c : Choice) (k : ℕ) (fs : List Field) → path_of (keys_by g (flat_keys g false n) false c k fs) t ≡ option_map alone (position_from (is_called t) k fs)
   path_place c k [] = refl
   path_place c k (f ∷ fs) =
-      by_test f.flattened (ap (λ j. path_of (keys_by g (flat_keys g n) false c j fs) t) (omega arith) ∙ path_place c (k + 1) fs)
+      by_test f.flattened (ap (λ j. path_of (keys_by g (flat_keys g false n) false c j fs) t) (omega arith) ∙ path_place c (k + 1) fs)
       ∙ sym (map_cond (is_called t f) k (position_from (is_called t) (k + 1) fs))
     where
-      by_test : (b : Bool) → path_of (keys_by g (flat_keys g n) false c (suc k) fs) t ≡ option_map alone (position_from (is_called t) (k + 1) fs)
-          → path_of (cond b ([] ++ map (under k) (flat_keys g n (definition_at g f.shape) (below k c))) (own_keys k f) ++ keys_by g (flat_keys g n) false c (suc k) fs) t
+      by_test : (b : Bool) → path_of (keys_by g (flat_keys g false n) false c (suc k) fs) t ≡ option_map alone (position_from (is_called t) (k + 1) fs)
+          → path_of (cond b ([] ++ map (under k) (flat_keys g false n (definition_at g f.shape) (below k c))) (own_keys k f) ++ keys_by g (flat_keys g false n) false c (suc k) fs) t
           ≡ cond (not b && (bytes_eq (effective_name f) t || is_text t f.alias)) (Some (alone k)) (option_map alone (position_from (is_called t) (k + 1) fs))
-      by_test true rest = ap (λ ks. path_of (ks ++ keys_by g (flat_keys g n) false c (suc k) fs) t) (no_keys g n k f (below k c)) ∙ rest
-      by_test false rest = path_own k f (keys_by g (flat_keys g n) false c (suc k) fs) ∙ ap (λ o. cond (bytes_eq (effective_name f) t || is_text t f.alias) (Some (alone k)) o) rest
+      by_test true rest = ap (λ ks. path_of (ks ++ keys_by g (flat_keys g false n) false c (suc k) fs) t) (no_keys g n k f (below k c)) ∙ rest
+      by_test false rest = path_own k f (keys_by g (flat_keys g false n) false c (suc k) fs) ∙ ap (λ o. cond (bytes_eq (effective_name f) t || is_text t f.alias) (Some (alone k)) o) rest
 
 -- the field at a place, which is read under the key that led there
 pub place_called : (t : List ℕ) (fs : List Field) (k i : ℕ) → position_from (is_called t) k fs ≡ Some i → (j : ℕ) × (f : Field) × (i ≡ k + j) × (slice_get fs j ≡ Some f) × (is_called t f ≡ true)

@@ -19,7 +19,8 @@ alias_key k (Some a) = record { path = k ∷ []; item = a } ∷ []
 abbrev pub own_keys : ℕ → Field → List Declared
 own_keys k f = record { path = k ∷ []; item = effective_name f } ∷ alias_key k f.alias
 
--- The fields of an object. Where `whole` says so, a flattened field may also stand as a whole under its own name.
+-- The fields of an object. Where `whole` says so, a flattened field may also stand as a whole under its own name, in each
+-- layer of flattening.
 pub record Layout : Type 0 where
   pub fields : List Field
   pub whole : Bool
@@ -38,13 +39,13 @@ keys_by g inner whole c k [] = []
 keys_by g inner whole c k (f ∷ fs) = field_keys g inner whole c k f ++ keys_by g inner whole c (suc k) fs
 
 -- Within so many layers. No shape can be flattened yet.
-abbrev pub flat_keys : Registry → ℕ → InnerKeys
-flat_keys g zero d c = []
-flat_keys g (suc n) d c = []
+abbrev pub flat_keys : Registry → Bool → ℕ → InnerKeys
+flat_keys g whole zero d c = []
+flat_keys g whole (suc n) d c = []
 
 -- all keys that an object of these fields may have, and where each leads
 abbrev pub keys : Registry → Layout → Choice → List Declared
-keys g l c = keys_by g (flat_keys g (length g)) l.whole c 0 l.fields
+keys g l c = keys_by g (flat_keys g l.whole (length g)) l.whole c 0 l.fields
 
 -- where the first key of this text leads
 abbrev pub path_of : List Declared → List ℕ → Option Path

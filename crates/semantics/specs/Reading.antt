@@ -97,13 +97,13 @@ read_fields flat g rd whole c k [] xs = Some no_trees
 read_fields flat g rd whole c k (f ∷ fs) xs = and_trees (read_field flat g rd whole (below k c) f (below k xs)) (read_fields flat g rd whole c (suc k) fs xs)
 
 -- Within so many layers. No shape can be flattened yet.
-abbrev pub read_flat : {A : Type 0} → Registry → Parts A → ℕ → FlatReader A
-read_flat g rd zero d c xs = None
-read_flat g rd (suc n) d c xs = None
+abbrev pub read_flat : {A : Type 0} → Registry → Parts A → Bool → ℕ → FlatReader A
+read_flat g rd whole zero d c xs = None
+read_flat g rd whole (suc n) d c xs = None
 
 -- what is read of the things that stand at the paths of an object
 abbrev pub read_layout : {A : Type 0} → Registry → Parts A → Choice → Layout → List (At A) → Option Trees
-read_layout g rd c l xs = read_fields (read_flat g rd (length g)) g rd l.whole c 0 l.fields xs
+read_layout g rd c l xs = read_fields (read_flat g rd l.whole (length g)) g rd l.whole c 0 l.fields xs
 
 -- The entries of a struct, under a choice of variants: each key is allowed, and each field is read of what leads to it.
 abbrev pub read_struct : Registry → Reader → Choice → Bool → Layout → List Entry → Option Tree
