@@ -12,7 +12,7 @@ use Rattle.semantics.specs.Documents.{free, Document, Members, Member, member_li
 use Rattle.semantics.specs.Writing.{Written, write, write_fields}
 use Rattle.semantics.specs.Places.{Path, rest_of, rest_at, below, has_whole, Choice}
 use Rattle.semantics.specs.Keys.{flat_keys, keys, Layout, Plan, plan_of, leads, after_key, Placed, with_entry, placed, is_allowed, are_allowed}
-use Rattle.semantics.specs.Reading.{Reader, from_events, source_of, by_run, read_own, FlatReader, read_field, and_trees, read_fields, read_flat, read_layout, read_struct}
+use Rattle.semantics.specs.Reading.{Reader, from_events, source_of, by_run, read_own, FlatReader, read_field, and_trees, read_fields, read_flat, read_layout, read_entries, read_struct}
 use Rattle.semantics.specs.Validity.{Distinct, Alike, FieldsAlike}
 use Rattle.laws.proofs.Mixes.{Mixes, Agrees, mixes_filter, mixes_one, mixes_every}
 use Rattle.laws.proofs.Orders.{Comes, Carried}
@@ -151,10 +151,10 @@ none_prefixed [] = refl
 none_prefixed (x ∷ l) = ap (λ m. x ∷ m) (none_prefixed l)
 
 -- The entries of what is written, in any order, are read as the fields.
-pub struct_read : (g : Registry) (rd : Reader) (c : Choice) (deny : Bool) (l : Layout) (vs : Trees) (ms : Members) (es : List Entry)
+pub entries_read : (g : Registry) (rd : Reader) (c : Choice) (deny : Bool) (l : Layout) (vs : Trees) (ms : Members) (es : List Entry)
     → Distinct (keys g l c) → Every IsOwn l.fields → FieldsRead g rd l.fields vs → write_fields g l.fields vs ≡ Ok ms
-    → Mixes Carried (member_list ms) es → (ws : Trees) × (read_struct g rd c deny l es ≡ Some (structure ws)) × FieldsAlike g l.fields vs ws
-struct_read g rd c deny l vs ms es distinct own good e order =
+    → Mixes Carried (member_list ms) es → FieldsReadAs g l.fields vs (read_entries g (by_run rd) c deny l es)
+entries_read g rd c deny l vs ms es distinct own good e order =
     let plan = plan_of g c deny l in
     let (declared, places) = fields_placed g plan [] (flat_keys g l.whole (length g)) l.whole c 0 l.fields vs ms (λ x h. first_found (keys g l c) x distinct h) own e in
     let leading = mixes_every Carried (IsDeclared plan) (Leads plan) (carried_leads plan) (member_list ms) es order declared in
@@ -162,7 +162,14 @@ struct_read g rd c deny l vs ms es distinct own good e order =
     let (ws, read, alike) = fields_back g rd (read_flat g (by_run rd) l.whole (length g)) l.whole c 0 l.fields vs ms (fields_places g 0 l.fields vs) (filter_map (place_entry plan) es)
     (subst (λ q. Mixes SamePlace q (filter_map (place_entry plan) es)) (places ∙ none_prefixed (fields_places g 0 l.fields vs)) mixed) (λ i le. refl) own good e in (
       ws,
-      ap (λ b. cond b (option_map structure (read_layout g (by_run rd) c l (placed plan 0 es))) None) (allowed plan 0 es leading)
-          ∙ ap (λ q. option_map structure (read_layout g (by_run rd) c l q)) (placed_is plan 0 es leading) ∙ ap (option_map structure) read,
+      ap (λ b. cond b (read_layout g (by_run rd) c l (placed plan 0 es)) None) (allowed plan 0 es leading) ∙ ap (read_layout g (by_run rd) c l) (placed_is plan 0 es leading) ∙ read,
       alike,
     )
+
+-- the same of a struct
+pub struct_read : (g : Registry) (rd : Reader) (c : Choice) (deny : Bool) (l : Layout) (vs : Trees) (ms : Members) (es : List Entry)
+    → Distinct (keys g l c) → Every IsOwn l.fields → FieldsRead g rd l.fields vs → write_fields g l.fields vs ≡ Ok ms
+    → Mixes Carried (member_list ms) es → (ws : Trees) × (read_struct g rd c deny l es ≡ Some (structure ws)) × FieldsAlike g l.fields vs ws
+struct_read g rd c deny l vs ms es distinct own good e order =
+    let (ws, read, alike) = entries_read g rd c deny l vs ms es distinct own good e order in
+    (ws, ap (option_map structure) read, alike)

@@ -10,7 +10,7 @@ use Rattle.semantics.specs.Typed.{on_some, base, scalar_of, option_of, ok_of, er
 use Rattle.semantics.specs.Numerals.{only}
 use Rattle.semantics.specs.Places.{At, below, has_whole, Choice}
 use Rattle.semantics.specs.Keys.{Layout, plan_of, placed, are_allowed}
-use Rattle.semantics.specs.Reading.{Setting, Source, from_events, Reader, Parts, by_run, absent, or_value, fill, read_own, FlatReader, in_parts, read_field, and_trees, read_fields, read_flat, read_layout, read_struct, read_object, plain_layout, holds_nothing, is_nothing, read_option, read_sequence, read_each, read_items, by_outcome, read_outcome, read_result, read_elements, entry_runs, read_tuple, read_as, read_shape, read}
+use Rattle.semantics.specs.Reading.{Setting, Source, from_events, Reader, Parts, by_run, absent, or_value, fill, read_own, FlatReader, in_parts, read_field, and_trees, read_fields, read_flat, read_layout, read_entries, read_struct, read_object, plain_layout, holds_nothing, is_nothing, read_option, read_sequence, read_each, read_items, by_outcome, read_outcome, read_result, read_elements, entry_runs, read_tuple, read_as, read_shape, read}
 use Rattle.laws.proofs.Tests.{both, is_both, if_true, mapped, bound}
 use Rattle.laws.proofs.Built.{BuiltField, struct_built, built, base_is}
 use Rattle.laws.proofs.Bases.{base_inner}
@@ -55,19 +55,24 @@ module _ (g : Registry) {A : Type 0} (rd : Parts A) (parts : (s : ℕ) (x : A) (
       ap (fields_typed g (f ∷ fs)) (sym is)
       ∙ both (typed g f.shape w) (fields_typed g fs ws) (own_typed f filled (below k xs) w mine) (fields_are_typed flat whole c (suc k) fs xs ws all rest)
 
-object_read : (mean : List Entry → Option Tree) (r : Run) (v : Tree) → read_object mean r ≡ Some v → (es : List Entry) × (mean es ≡ Some v)
+object_read : {A : Type 0} (mean : List Entry → Option A) (r : Run) (v : A) → read_object mean r ≡ Some v → (es : List Entry) × (mean es ≡ Some v)
 object_read mean (group of_struct k n i) v e =
     let (es, cut, is) = bound mean (entries i) v e in
     (es, is)
 object_read mean _ v e = absurd cc
 
+entries_inverted : (g : Registry) (rd : Parts Entry) (c : Choice) (deny : Bool) (l : Layout) (es : List Entry) (vs : Trees) → read_entries g rd c deny l es ≡ Some vs
+    → (xs : List (At Entry)) × (read_layout g rd c l xs ≡ Some vs)
+entries_inverted g rd c deny l es vs e =
+    let xs = placed (plan_of g c deny l) 0 es in
+    (xs, (if_true (are_allowed (plan_of g c deny l) 0 es) (read_layout g rd c l xs) vs e).1)
+
 struct_inverted : (g : Registry) (rd : Reader) (c : Choice) (deny : Bool) (l : Layout) (es : List Entry) (v : Tree) → read_struct g rd c deny l es ≡ Some v
     → (xs : List (At Entry)) × (vs : Trees) × (read_layout g (by_run rd) c l xs ≡ Some vs) × (structure vs ≡ v)
 struct_inverted g rd c deny l es v e =
-    let xs = placed (plan_of g c deny l) 0 es in
-    let (allowed, is) = if_true (are_allowed (plan_of g c deny l) 0 es) (option_map structure (read_layout g (by_run rd) c l xs)) v e in
-    let (vs, read_all, value) = mapped structure (read_layout g (by_run rd) c l xs) v is in
-    (xs, vs, read_all, value)
+    let (vs, read_all, value) = mapped structure (read_entries g (by_run rd) c deny l es) v e in
+    let (xs, is) = entries_inverted g (by_run rd) c deny l es vs read_all in
+    (xs, vs, is, value)
 
 -- what is typed depends on what the shape is made of alone
 pub typed_alike : (g : Registry) (s t : ℕ) → base g s ≡ base g t → (v : Tree) → typed g s v ≡ typed g t v

@@ -91,7 +91,7 @@ module _ (t : Terms) where
   skip_meets fs input = pass_meets (length input.events + 1) [] fs input.events input.ending input.last (omega arith)
 
   -- Objects, whatever their entries do.
-  module _ {S : Type 0} (takes : Takes S) (finish : Finish S) (frame : S → Frame) (enters : S → Frames → Key → Steps) (whole : S → Frames → Span → Result Tree Fault)
+  module _ {S : Type 0} (takes : Takes S) (finish : Finish S Tree) (frame : S → Frame) (enters : S → Frames → Key → Steps) (whole : S → Frames → Span → Result Tree Fault)
       (stepping : (s : S) (fs : Frames) (last : Span) (e : Event) → step_at t (frame s ∷ fs) last e ≡ entry_step e (enters s fs) (whole s fs) t fs)
       (finishing : (s : S) (fs : Frames) (input : Input) → finish s (path t fs) input ≡ whole s fs input.last)
       (entering : (s : S) (fs : Frames) (q : Key) (es : List Event) (ending : Ending) (then : S → Input → Result (Tree × Input) Fault)

@@ -191,7 +191,7 @@ module _ (terms : Terms) (n s : ℕ) (source : Source) (t : ScalarType) (is : de
             by_argument true names told = by_first state.first first names told
             by_argument false names told = by_key (is_key q) refl told
 
-      stop_fails : (state : Node) (tail : List Event) → KeepsNode target more state → Stop Node mean (node_entry target) (KeepsNode target) path state (last_span m.span (entries_events more)) tail ending f → Why (front ++ tail)
+      stop_fails : (state : Node) (tail : List Event) → KeepsNode target more state → Stop Node Tree mean (node_entry target) (KeepsNode target) path state (last_span m.span (entries_events more)) tail ending f → Why (front ++ tail)
       stop_fails state tail keeps (no_more none at) =
           subst Why (sym (ap (λ l. front ++ l) none ∙ append-nil front)) (ended_in terms n s source mean reads_node object path last ending f k m more at)
       stop_fails state tail keeps (no_entry e rest cut stray at) =
@@ -209,7 +209,7 @@ module _ (terms : Terms) (n s : ℕ) (source : Source) (t : ScalarType) (is : de
               (ap (λ b. cond b (argument_value target (arguments more)) None) all ∙ sym value)
               (sym (err_is (fault unexpected_token end.span path) f told))
 
-    inside_fails : (k : ContainerKind) (m : Note) (l : List Event) → InsideRefused Node mean (node_entry target) (KeepsNode target) node_value path m.span l ending f → Why (start of_struct k m ∷ l)
+    inside_fails : (k : ContainerKind) (m : Note) (l : List Event) → InsideRefused Node Tree mean (node_entry target) (KeepsNode target) node_value path m.span l ending f → Why (start of_struct k m ∷ l)
     inside_fails k m l (in_entries stopped) =
         subst (λ l. Why (start of_struct k m ∷ l)) (sym stopped.cut) (stop_fails k m stopped.more stopped.state stopped.tail stopped.keeps stopped.why)
     inside_fails k m l (at_end more end rest state cut keeps told) = subst (λ l. Why (start of_struct k m ∷ l)) (sym cut) (value_fails k m more state end rest keeps told)
@@ -224,7 +224,7 @@ module _ (terms : Terms) (n s : ℕ) (source : Source) (t : ScalarType) (is : de
   scalar_fails path (leaf (scalar x m) ∷ es) ending last f told = unset_fails path last ending f [] (before_all refl alone) (at_once refl) x m es told
   scalar_fails path (start of_struct k m ∷ l) ending last f told =
       inside_fails path last ending f k m l
-      (inside_refused Node mean (node_entry target) (KeepsNode target) bare_node (refl, refl, refl) node_value (node_entry_sound target) path l ending m.span f told)
+      (inside_refused Node Tree mean (node_entry target) (KeepsNode target) bare_node (refl, refl, refl) node_value (node_entry_sound target) path l ending m.span f told)
   scalar_fails path (leaf (key q) ∷ es) ending last f told = other_fails path last ending f (leaf (key q)) es (λ v m x. cc) (λ k m x. cc) told
   scalar_fails path (leaf (tag u m) ∷ es) ending last f told = other_fails path last ending f (leaf (tag u m)) es (λ v j x. cc) (λ k j x. cc) told
   scalar_fails path (start of_sequence k m ∷ es) ending last f told = other_fails path last ending f (start of_sequence k m) es (λ v j x. cc) (λ c j x. cc) told

@@ -96,7 +96,7 @@ module _ (terms : Terms) (n s : ℕ) (source : Source) (d : StructShape)
     module _ (q : Key) where
       denied : is_allowed plan (ordered_count 0 more) q ≡ false → (r : Run) (later : List Entry) → mean (more ++ (entry q r ∷ later)) ≡ None
       denied no_key r later =
-          ap (λ b. cond b (option_map structure (read_layout g (by_run (read terms.setting n)) [] (plain_layout d) (placed plan 0 (more ++ (entry q r ∷ later))))) None) (not_allowed plan 0 more (entry q r) later no_key)
+          ap (λ b. option_map structure (cond b (read_layout g (by_run (read terms.setting n)) [] (plain_layout d) (placed plan 0 (more ++ (entry q r ∷ later)))) None)) (not_allowed plan 0 more (entry q r) later no_key)
 
       -- into the value of a field
       inner_fails : (place : ℕ) (field : Field) → leads plan (ordered_count 0 more) q ≡ Some (place ∷ []) → slice_get d.fields place ≡ Some field → (rest : List Event)
@@ -220,7 +220,7 @@ module _ (terms : Terms) (n s : ℕ) (source : Source) (d : StructShape)
           | inr z ↦ absurd (let no_fault = z.2 in cc)
         ]
 
-    stop_fails : (got : Got) (tail : List Event) → Holding more got → Stop Got mean takes Holding path got (last_span m.span (entries_events more)) tail ending f → Why (front ++ tail)
+    stop_fails : (got : Got) (tail : List Event) → Holding more got → Stop Got Tree mean takes Holding path got (last_span m.span (entries_events more)) tail ending f → Why (front ++ tail)
     stop_fails got tail holds (no_more none is) =
         subst Why (sym (ap (λ l. front ++ l) none ∙ append-nil front)) (ended_in terms n s source mean reads_entries object path last ending f k m more is)
     stop_fails got tail holds (no_entry e rest cut stray is) = subst (λ l. Why (front ++ l)) (sym cut) (stray_fails terms n s source mean reads_entries object path last ending f k m more e rest stray is)
@@ -230,14 +230,14 @@ module _ (terms : Terms) (n s : ℕ) (source : Source) (d : StructShape)
   begins = ((refl, refl, tt), tt, λ k. tt)
 
   inside_fails : (path : List Step) (last : Span) (k : ContainerKind) (m : Note) (l : List Event) (ending : Ending) (f : Fault)
-      → InsideRefused Got mean takes Holding (gathered g [] (plain_layout d) s) path m.span l ending f → Cause terms (part path) last (start of_struct k m ∷ l) ending f
+      → InsideRefused Got Tree mean takes Holding (gathered g [] (plain_layout d) s) path m.span l ending f → Cause terms (part path) last (start of_struct k m ∷ l) ending f
   inside_fails path last k m l ending f (in_entries stopped) =
       subst (λ l. Cause terms (part path) last (start of_struct k m ∷ l) ending f) (sym stopped.cut)
       (stop_fails path last ending f k m stopped.more stopped.state stopped.tail stopped.keeps stopped.why)
   inside_fails path last k m l ending f (at_end more end rest got cut holds told) =
       subst (λ l. Cause terms (part path) last (start of_struct k m ∷ l) ending f) (sym cut) (missing_fails path last ending f k m more end rest got holds told)
 
-  object_fails : (path : List Step) (last : Span) (es : List Event) (ending : Ending) (f : Fault) → Refused Got mean takes Holding (gathered g [] (plain_layout d) s) path last es ending f
+  object_fails : (path : List Step) (last : Span) (es : List Event) (ending : Ending) (f : Fault) → Refused Got Tree mean takes Holding (gathered g [] (plain_layout d) s) path last es ending f
       → Cause terms (part path) last es ending f
   object_fails path last es ending f (no_event none is) = subst (λ l. Cause terms (part path) last l ending f) (sym none) (ended_first terms n s path source last ending f is)
   object_fails path last es ending f (no_start e rest cut other is) =
@@ -246,4 +246,4 @@ module _ (terms : Terms) (n s : ℕ) (source : Source) (d : StructShape)
 
   pub struct_fails : Fails terms (suc n) s source (struct_at g (reading terms n) [] d.deny (plain_layout d) s)
   struct_fails path es ending last f told =
-      object_fails path last es ending f (object_refused Got mean takes Holding nothing_got begins (gathered g [] (plain_layout d) s) (holds_sound terms n s d sound) path es ending last f told)
+      object_fails path last es ending f (object_refused Got Tree mean takes Holding nothing_got begins (gathered g [] (plain_layout d) s) (holds_sound terms n s d sound) path es ending last f told)

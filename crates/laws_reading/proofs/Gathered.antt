@@ -1,13 +1,13 @@
 -- What was read is gathered as the meaning reads it.
-use Rattle.std.proofs.Common.{◌≡◌, ℕ, zero, suc, List, [], ◌∷◌, Option, Some, None, Result, Ok, Err, Bool, true, false, cond, option_map, length, refl, ap, ap₂, ◌∙◌}
-use Rattle.semantics.specs.Trees.{Tree, structure, Trees}
+use Rattle.std.proofs.Common.{◌≡◌, ℕ, zero, suc, List, [], ◌∷◌, Option, Some, None, Result, Ok, Err, Bool, true, false, cond, length, refl, ap₂, ◌∙◌}
+use Rattle.semantics.specs.Trees.{Tree, Trees}
 use Rattle.semantics.specs.Shapes.{Field, Definition, Registry, definition_at}
 use Rattle.semantics.specs.Faults.{Step, Fault}
 use Rattle.semantics.specs.Places.{At, below, has_whole, Choice}
 use Rattle.semantics.specs.Keys.{Layout}
 use Rattle.semantics.specs.Reading.{fill, FlatReader, read_own, in_parts, read_field, and_trees, read_fields, read_flat, read_layout}
 use Rattle.laws_reading.specs.Input.{Input, ◌>>=◌}
-use Rattle.laws_reading.specs.Structs.{Told, Got, kept, Spot, or_missing, gather_own, Gathers, inner_spot, gather_field, with_tree, gather_fields, gather_flat, as_structure, gathered}
+use Rattle.laws_reading.specs.Structs.{Told, Got, kept, Spot, or_missing, gather_own, Gathers, inner_spot, gather_field, with_tree, gather_fields, gather_flat, gathered_trees}
 
 abbrev pub ok_of : {A : Type 0} → Result A Fault → Option A
 ok_of (Ok v) = Some v
@@ -21,10 +21,6 @@ trees_ok : (r : Result Tree Fault) (s : Result Trees Fault) → ok_of (r >>= λ 
 trees_ok (Ok v) (Ok vs) = refl
 trees_ok (Ok v) (Err e) = refl
 trees_ok (Err e) s = refl
-
-structure_ok : (r : Result Trees Fault) → ok_of (r >>= as_structure) ≡ option_map structure (ok_of r)
-structure_ok (Ok v) = refl
-structure_ok (Err e) = refl
 
 abbrev pub Gathered : Gathers → FlatReader Told → Type 0
 Gathered gather flat = (d : Option Definition) (c : Choice) (spot : Spot) (xs : List (At Told)) → ok_of (gather d c spot xs) ≡ flat d c xs
@@ -52,8 +48,7 @@ module _ (g : Registry) (whole : Bool) where
   flat_ok zero d c spot xs = refl
   flat_ok (suc n) d c spot xs = refl
 
-pub gathered_ok : (g : Registry) (c : Choice) (l : Layout) (shape : ℕ) (s : Got) (path : List Step) (input : Input) → ok_of (gathered g c l shape s path input) ≡ option_map structure (read_layout g kept c l s.values)
+pub gathered_ok : (g : Registry) (c : Choice) (l : Layout) (shape : ℕ) (s : Got) (path : List Step) (input : Input) → ok_of (gathered_trees g c l shape s path input) ≡ read_layout g kept c l s.values
 gathered_ok g c l shape s path input =
     let spot : Spot = record { shape = shape; path = path; input = input } in
-    structure_ok (gather_fields (gather_flat g l.whole (length g)) g l.whole c spot 0 l.fields s.values)
-    ∙ ap (option_map structure) (fields_ok g l.whole (gather_flat g l.whole (length g)) (read_flat g kept l.whole (length g)) (flat_ok g l.whole (length g)) c spot 0 l.fields s.values)
+    fields_ok g l.whole (gather_flat g l.whole (length g)) (read_flat g kept l.whole (length g)) (flat_ok g l.whole (length g)) c spot 0 l.fields s.values

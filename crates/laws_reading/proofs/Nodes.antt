@@ -116,10 +116,10 @@ module _ (t : Target) where
       passed_complete es q path (tagged u n r) rest ending last (record { first = Some (key_note q).span; value = None }) (next_argument t es q (tagged u n r) None all none is refl)
 
   -- an entry of a node, in both directions
-  pub node_entry_sound : EntrySound Node (read_node t.borrow t.shape t.type) (node_entry t) (KeepsNode t)
+  pub node_entry_sound : EntrySound Node Tree (read_node t.borrow t.shape t.type) (node_entry t) (KeepsNode t)
   node_entry_sound es s keeps q path l ending last s' after e = entry_sound es q path ending s s' l last after keeps e
 
-  pub node_entry_complete : EntryComplete Node (read_node t.borrow t.shape t.type) (node_entry t) (KeepsNode t)
+  pub node_entry_complete : EntryComplete Node Tree (read_node t.borrow t.shape t.type) (node_entry t) (KeepsNode t)
   node_entry_complete es s (all, first, value) q path r rest ending last = by_argument (is_argument q) refl
     where
       at : Input
@@ -138,7 +138,7 @@ module _ (t : Target) where
       by_argument false is = by_key (is_key q) refl is
 
   -- what is known at the end is what the node is read as
-  finishes : Finishes Node (read_node t.borrow t.shape t.type) (node_entry t) (KeepsNode t) node_value
+  finishes : Finishes Node Tree (read_node t.borrow t.shape t.type) (node_entry t) (KeepsNode t) node_value
   finishes es s (all, first, value) path input v =
       let same : read_node t.borrow t.shape t.type es ≡ s.value = ap (λ b. cond b (argument_value t (arguments es)) None) all ∙ sym value in
       let (there, back) = by_value s.value in
@@ -154,7 +154,7 @@ module _ (t : Target) where
       let (value, same) = set_sound x path (feed l ending n.span) w after e in
       (one x n, ap (λ (z : Input). leaf (scalar x n) ∷ z.events) same, sym (ap (λ (z : Input). z.ending) same), sym (ap (λ (z : Input). z.last) same), value)
   scalar_sound path (start of_struct k n ∷ l) ending last w after e =
-      let (i, cut, same, at, means) = behind_sound Node (read_node t.borrow t.shape t.type) (node_entry t) (KeepsNode t) bare_node (refl, refl, refl) node_value finishes
+      let (i, cut, same, at, means) = behind_sound Node Tree (read_node t.borrow t.shape t.type) (node_entry t) (KeepsNode t) bare_node (refl, refl, refl) node_value finishes
       node_entry_sound path l ending n.span w after e in
       (group of_struct k n i, ap (λ l. start of_struct k n ∷ l) cut, same, at, means)
   scalar_sound path (_ ∷ l) ending last w after e = absurd cc
@@ -162,5 +162,5 @@ module _ (t : Target) where
   pub scalar_complete : Complete (read_scalar t.borrow t.shape t.type) (scalar_at t)
   scalar_complete path (one x n) w rest ending last e = set_complete x path (feed rest ending n.span) w e
   scalar_complete path (group of_struct k n i) w rest ending last e =
-      behind_complete Node (read_node t.borrow t.shape t.type) (node_entry t) (KeepsNode t) bare_node (refl, refl, refl) node_value finishes node_entry_complete path i w rest ending n.span e
+      behind_complete Node Tree (read_node t.borrow t.shape t.type) (node_entry t) (KeepsNode t) bare_node (refl, refl, refl) node_value finishes node_entry_complete path i w rest ending n.span e
   scalar_complete path _ w rest ending last e = absurd cc

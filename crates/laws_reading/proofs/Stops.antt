@@ -1,7 +1,6 @@
 -- Where the loop over the entries of an object stops with a fault.
 use Rattle.std.proofs.Common.{◌≡◌, inl, inr, ℕ, zero, suc, ◌+◌, ◌<◌, List, [], ◌∷◌, ◌++◌, length, Option, Result, Err, Bool, true, false, refl, sym, ap, ◌∙◌, subst, append_assoc, length-append, arith}
 use Rattle.std.proofs.lemmas.List.{append-nil}
-use Rattle.semantics.specs.Trees.{Tree}
 use Rattle.semantics.specs.Events.{Span, Note, Key, scalar, key, tag, of_struct, of_sequence, ContainerKind, Event, leaf, start, stop, key_note, span_of}
 use Rattle.semantics.specs.Faults.{Step, unexpected_token, Fault, Ending}
 use Rattle.semantics.specs.Runs.{Run, run_events, Entry, entries_events}
@@ -21,7 +20,7 @@ is_stray (leaf (key q)) = false
 is_stray (stop of_struct n) = false
 is_stray _ = true
 
-module _ (S : Type 0) (mean : List Entry → Option Tree) (takes : Takes S) (Keeps : List Entry → S → Type 0) where
+module _ (S A : Type 0) (mean : List Entry → Option A) (takes : Takes S) (Keeps : List Entry → S → Type 0) where
   -- Behind the entries so far these events come, the one before them stands at `last`, and the next step is the fault.
   pub data Stop (path : List Step) (s : S) (last : Span) (tail : List Event) (ending : Ending) (f : Fault) : Type 0 where
     no_more : tail ≡ [] → f ≡ ended_at ending last → Stop path s last tail ending f
@@ -65,7 +64,7 @@ module _ (S : Type 0) (mean : List Entry → Option Tree) (takes : Takes S) (Kee
   stray_stops e path es s last l ending f keeps stray same =
       stops_here path es s last (e ∷ l) ending f keeps (no_entry e l refl stray (sym (err_is (fault unexpected_token (span_of e) path) f same)))
 
-  pub entries_stop : EntrySound S mean takes Keeps → (path : List Step) (turns : ℕ) (es : List Entry) (s : S) (l : List Event) (ending : Ending) (last : Span) (f : Fault) → Keeps es s → length l < turns
+  pub entries_stop : EntrySound S A mean takes Keeps → (path : List Step) (turns : ℕ) (es : List Entry) (s : S) (l : List Event) (ending : Ending) (last : Span) (f : Fault) → Keeps es s → length l < turns
       → turning (entry_at takes) turns s path (feed l ending last) ≡ Err f → Stopped path es last l ending f
   entries_stop sound path zero es s l ending last f keeps less e = absurd (omega (arith, less))
   entries_stop sound path (suc turns) es s [] ending last f keeps less e =
@@ -95,26 +94,26 @@ module _ (S : Type 0) (mean : List Entry → Option Tree) (takes : Takes S) (Kee
   entries_stop sound path (suc turns) es s (start b k n ∷ l) ending last f keeps less e = stray_stops (start b k n) path es s last l ending f keeps refl e
 
   -- Where the inside of an object is refused: among its entries, or at its end.
-  pub data InsideRefused (finish : Finish S) (path : List Step) (last : Span) (l : List Event) (ending : Ending) (f : Fault) : Type 0 where
+  pub data InsideRefused (finish : Finish S A) (path : List Step) (last : Span) (l : List Event) (ending : Ending) (f : Fault) : Type 0 where
     in_entries : Stopped path [] last l ending f → InsideRefused finish path last l ending f
     at_end : (more : List Entry) (end : Note) (rest : List Event) (s : S) → l ≡ entries_events more ++ (stop of_struct end ∷ rest) → Keeps more s
         → finish s path (feed rest ending end.span) ≡ Err f → InsideRefused finish path last l ending f
 
   -- Where an object is refused: before its entries, or inside.
-  pub data Refused (finish : Finish S) (path : List Step) (last : Span) (es : List Event) (ending : Ending) (f : Fault) : Type 0 where
+  pub data Refused (finish : Finish S A) (path : List Step) (last : Span) (es : List Event) (ending : Ending) (f : Fault) : Type 0 where
     no_event : es ≡ [] → f ≡ ended_at ending last → Refused finish path last es ending f
     no_start : (e : Event) (rest : List Event) → es ≡ e ∷ rest → ((k : ContainerKind) (n : Note) → e ≡ start of_struct k n → ⊥)
         → f ≡ fault unexpected_token (span_of e) path → Refused finish path last es ending f
     inside : (k : ContainerKind) (n : Note) (l : List Event) → es ≡ start of_struct k n ∷ l → InsideRefused finish path n.span l ending f → Refused finish path last es ending f
 
-  module _ (s0 : S) (begins : Keeps [] s0) (finish : Finish S) where
-    pub inside_refused : EntrySound S mean takes Keeps → (path : List Step) (l : List Event) (ending : Ending) (last : Span) (f : Fault)
+  module _ (s0 : S) (begins : Keeps [] s0) (finish : Finish S A) where
+    pub inside_refused : EntrySound S A mean takes Keeps → (path : List Step) (l : List Event) (ending : Ending) (last : Span) (f : Fault)
         → (entries_at takes s0 path (feed l ending last) >>= finished finish path) ≡ Err f → InsideRefused finish path last l ending f
     inside_refused sound path l ending last f e =
         elim (bind_err (entries_at takes s0 path (feed l ending last)) (finished finish path) f e) [
           | inl here ↦ in_entries (entries_stop sound path (length l + 1) [] s0 l ending last f begins (omega arith) here)
           | inr z ↦
-              let (m, same, end) = entries_sound S mean takes Keeps sound path (length l + 1) [] s0 z.0.0 l ending last z.0.1 begins z.1 in
+              let (m, same, end) = entries_sound S A mean takes Keeps sound path (length l + 1) [] s0 z.0.0 l ending last z.0.1 begins z.1 in
               elim (bind_err (finish z.0.0 path z.0.1) (with_rest z.0.1) f z.2) [
                 | inl there ↦ at_end m.more m.note z.0.1.events z.0.0 m.cut m.keeps (placed_end z.0.0 path z.0.1 ending m.note.span f same end there)
                 | inr w ↦ absurd (let no_fault = w.2 in cc)
@@ -128,10 +127,10 @@ module _ (S : Type 0) (mean : List Entry → Option Tree) (takes : Takes S) (Kee
             (subst (λ (z : Span). finish s path (feed input.events input.ending z) ≡ Err f) at e)
 
     refused_first : (e : Event) (path : List Step) (l : List Event) (ending : Ending) (last : Span) (f : Fault) → ((k : ContainerKind) (n : Note) → e ≡ start of_struct k n → ⊥)
-        → ◌≡◌ {A = Result (Tree × Input) Fault} (Err (fault unexpected_token (span_of e) path)) (Err f) → Refused finish path last (e ∷ l) ending f
+        → ◌≡◌ {A = Result (A × Input) Fault} (Err (fault unexpected_token (span_of e) path)) (Err f) → Refused finish path last (e ∷ l) ending f
     refused_first e path l ending last f other same = no_start e l refl other (sym (err_is (fault unexpected_token (span_of e) path) f same))
 
-    pub object_refused : EntrySound S mean takes Keeps → (path : List Step) (es : List Event) (ending : Ending) (last : Span) (f : Fault)
+    pub object_refused : EntrySound S A mean takes Keeps → (path : List Step) (es : List Event) (ending : Ending) (last : Span) (f : Fault)
         → object_at takes s0 finish path (feed es ending last) ≡ Err f → Refused finish path last es ending f
     object_refused sound path [] ending last f e = no_event refl (sym (err_is (ended_at ending last) f e))
     object_refused sound path (start of_struct k n ∷ l) ending last f e = inside k n l refl (inside_refused sound path l ending n.span f e)

@@ -122,7 +122,7 @@ module _ (terms : Terms) (n s : ℕ) (d : StructShape) (sound : (s : ℕ) (sourc
             (free_place a.end field.place field.field got.values field.end (ap (λ p. not a.end.many && is_taken p got.values) (sym field.path) ∙ a.free))),
       )
 
-  pub holds_sound : EntrySound Got mean takes Holds
+  pub holds_sound : EntrySound Got Tree mean takes Holds
   holds_sound es got (keeps, spanned, apart) q path l ending last got' after told =
       let (r, cut, same, at, keeps') = field_sound g (read terms.setting n) (reading terms n) [] d.deny (plain_layout d) s sound es got keeps q path l ending last got' after told in
       (r, cut, same, at, holds_more es got got' q r (keeps, spanned, apart) (change q got got' path (feed l ending last) after told) keeps')

@@ -2,17 +2,18 @@
 use Rattle.std.proofs.Common.{◌≡◌, ◌⊎◌, inl, inr, ℕ, List, [], ◌∷◌, ◌++◌, Option, Some, None, Result, Ok, Err, Bool, true, false, cond, not, ◌&&◌, option_map, refl, sym, ap, ◌∙◌, subst}
 use Rattle.std.specs.List.{cons_option}
 use Rattle.std.proofs.lemmas.List.{append-nil}
-use Rattle.semantics.specs.Trees.{Tree, structure}
+use Rattle.semantics.specs.Trees.{Tree, structure, Trees}
 use Rattle.semantics.specs.Shapes.{Registry}
 use Rattle.semantics.specs.Events.{Span, Key, Event}
 use Rattle.semantics.specs.Faults.{Step, duplicate_field, Fault, Ending}
 use Rattle.semantics.specs.Runs.{Run, run_events, Entry}
 use Rattle.semantics.specs.Places.{Path, At, Choice}
 use Rattle.semantics.specs.Keys.{Layout, plan_of, leads, after_key, with_entry, placed, is_allowed, are_allowed}
-use Rattle.semantics.specs.Reading.{Source, Reader, key_text, source_of, by_run, read_layout, read_struct, read_object}
+use Rattle.semantics.specs.Reading.{Source, Reader, key_text, source_of, by_run, read_layout, read_entries, read_struct, read_object}
 use Rattle.semantics.specs.Causes.{last_span}
 use Rattle.laws_reading.specs.Input.{Input, feed, ◌>>=◌, Reads, refused, unexpected}
-use Rattle.laws_reading.specs.Structs.{ReadsPart, Told, Got, nothing_got, End, leaf_at, steps_at, is_taken, taken_span, told_at, got_value, at_end_of, passed_over, at_path, field_at, kept, gathered, struct_at}
+use Rattle.laws_reading.specs.Structs.{ReadsPart, Told, Got, nothing_got, End, leaf_at, steps_at, is_taken, taken_span, told_at, got_value, at_end_of, passed_over, at_path, field_at, kept, as_structure, gathered_trees, gathered, struct_at}
+use Rattle.laws_reading.specs.Objects.{Takes, object_at}
 use Rattle.laws_reading.specs.Skips.{skip_at}
 use Rattle.laws_reading.specs.Laws.{Sound, Complete}
 use Rattle.laws_reading.proofs.Steps.{bind_ok, ok_is}
@@ -24,6 +25,20 @@ use Rattle.laws_reading.proofs.Same.{layout_same}
 use Rattle.laws_reading.proofs.Leads.{key_leads}
 use Rattle.laws_reading.proofs.Entries.{after_keys, after_keys_more, placed_among, allowed_more, not_allowed}
 use Rattle.laws_reading.proofs.Gathered.{ok_of, gathered_ok}
+
+ok_both : {A : Type 0} (r : Result A Fault) (o : Option A) → ok_of r ≡ o → (v : A) → ((r ≡ Ok v) → (o ≡ Some v)) × ((o ≡ Some v) → (r ≡ Ok v))
+ok_both (Ok w) o same v = (λ e. cc, λ e. cc)
+ok_both (Err f) o same v = (λ e. absurd cc, λ e. absurd cc)
+
+-- where both give the same values, both give the same struct
+built_both : (r : Result Trees Fault) (o : Option Trees) → ((v : Trees) → ((r ≡ Ok v) → (o ≡ Some v)) × ((o ≡ Some v) → (r ≡ Ok v))) → (w : Tree)
+    → ((r >>= as_structure ≡ Ok w) → (option_map structure o ≡ Some w)) × ((option_map structure o ≡ Some w) → (r >>= as_structure ≡ Ok w))
+built_both (Ok v) o same w = (λ e. ap (option_map structure) ((same v).0 refl) ∙ ap (λ z. Some z) (ok_is (structure v) w e), back o (same v).0)
+  where
+    back : (o : Option Trees) → ((◌≡◌ {A = Result Trees Fault} (Ok v) (Ok v)) → (o ≡ Some v)) → (option_map structure o ≡ Some w) → ◌≡◌ {A = Result Tree Fault} (Ok (structure v)) (Ok w)
+    back o here e = let is = here refl in cc
+built_both (Err f) None same w = (λ e. absurd cc, λ e. absurd cc)
+built_both (Err f) (Some v) same w = let none = (same v).1 refl in absurd cc
 
 module _ (g : Registry) (rd : Reader) (read : ReadsPart) (c : Choice) (deny : Bool) (l : Layout) (shape : ℕ) where
   -- the entries so far are allowed, and what they lead to was read
@@ -112,19 +127,19 @@ module _ (g : Registry) (rd : Reader) (read : ReadsPart) (c : Choice) (deny : Bo
       -- complete
       module _ (complete : (s : ℕ) (source : Source) → Complete (rd s source) (read s source)) (r : Run) (rest : List Event) where
         abbrev Answer : Result (Got × Input) Fault → Type 0
-        Answer told = ((l' : List Entry) → read_struct g rd c deny l (es ++ (entry q r ∷ l')) ≡ None) ⊎ ((s' : Got) × (told ≡ Ok (s', feed rest ending (last_span last (run_events r)))) × Keeps (es ++ (entry q r ∷ [])) s')
+        Answer told = ((l' : List Entry) → read_entries g (by_run rd) c deny l (es ++ (entry q r ∷ l')) ≡ None) ⊎ ((s' : Got) × (told ≡ Ok (s', feed rest ending (last_span last (run_events r)))) × Keeps (es ++ (entry q r ∷ [])) s')
 
         abbrev input : Input
         input = feed (run_events r ++ rest) ending last
 
-        none_read : (p : Path) (s : End) → lead ≡ Some p → leaf_at g c l p ≡ Some s → Lost (by_run rd) s (entry q r) p (placed (plan_of g c deny l) 0 es) → (l' : List Entry) → read_struct g rd c deny l (es ++ (entry q r ∷ l')) ≡ None
+        none_read : (p : Path) (s : End) → lead ≡ Some p → leaf_at g c l p ≡ Some s → Lost (by_run rd) s (entry q r) p (placed (plan_of g c deny l) 0 es) → (l' : List Entry) → read_entries g (by_run rd) c deny l (es ++ (entry q r ∷ l')) ≡ None
         none_read p s is end gone l' = by_test (are_allowed (plan_of g c deny l) 0 (es ++ (entry q r ∷ l')))
           where
             whole : placed (plan_of g c deny l) 0 (es ++ (entry q r ∷ l')) ≡ placed (plan_of g c deny l) 0 es ++ (placed_at p (entry q r) ∷ placed (plan_of g c deny l) (after_key n q) l')
             whole = placed_among (plan_of g c deny l) 0 es (entry q r) l' ∙ ap (λ o. placed (plan_of g c deny l) 0 es ++ cons_option (with_entry (entry q r) o) (placed (plan_of g c deny l) (after_key n q) l')) is
 
-            by_test : (b : Bool) → cond b (option_map structure (read_layout g (by_run rd) c l (placed (plan_of g c deny l) 0 (es ++ (entry q r ∷ l'))))) None ≡ None
-            by_test true = ap (λ xs. option_map structure (read_layout g (by_run rd) c l xs)) whole ∙ ap (option_map structure) (layout_lost g (by_run rd) c l p s (entry q r) end (placed (plan_of g c deny l) 0 es) (placed (plan_of g c deny l) (after_key n q) l') got h gone)
+            by_test : (b : Bool) → cond b (read_layout g (by_run rd) c l (placed (plan_of g c deny l) 0 (es ++ (entry q r ∷ l')))) None ≡ None
+            by_test true = ap (read_layout g (by_run rd) c l) whole ∙ layout_lost g (by_run rd) c l p s (entry q r) end (placed (plan_of g c deny l) 0 es) (placed (plan_of g c deny l) (after_key n q) l') got h gone
             by_test false = refl
 
         of_value : is_allowed (plan_of g c deny l) n q ≡ true → (p : Path) (s : End) → lead ≡ Some p → leaf_at g c l p ≡ Some s → (o : Option Tree) → rd s.shape (source_of q) r ≡ o
@@ -150,27 +165,46 @@ module _ (g : Registry) (rd : Reader) (read : ReadsPart) (c : Choice) (deny : Bo
           where
             by_test : (b : Bool) → is_allowed (plan_of g c deny l) n q ≡ b → Answer (cond b (at_path (leaf_at g c l) (steps_at g l) lead read q (after_key n q) got path input) (unexpected path input))
             by_test true one = of_path one lead refl
-            by_test false one = inl (λ l'. ap (λ b. cond b (option_map structure (read_layout g (by_run rd) c l (placed (plan_of g c deny l) 0 (es ++ (entry q r ∷ l'))))) None) (not_allowed (plan_of g c deny l) 0 es (entry q r) l' one))
+            by_test false one = inl (λ l'. ap (λ b. cond b (read_layout g (by_run rd) c l (placed (plan_of g c deny l) 0 (es ++ (entry q r ∷ l')))) None) (not_allowed (plan_of g c deny l) 0 es (entry q r) l' one))
 
-  pub field_sound : ((s : ℕ) (source : Source) → Sound (rd s source) (read s source)) → EntrySound Got (read_struct g rd c deny l) (field_at (leaf_at g c l) (steps_at g l) (plan_of g c deny l) read) Keeps
+  -- what the entries mean, and what one of them does
+  abbrev mean : List Entry → Option Trees
+  mean = read_entries g (by_run rd) c deny l
+
+  abbrev takes : Takes Got
+  takes = field_at (leaf_at g c l) (steps_at g l) (plan_of g c deny l) read
+
+  pub field_sound : ((s : ℕ) (source : Source) → Sound (rd s source) (read s source)) → EntrySound Got Trees mean takes Keeps
   field_sound sound es s (all, count, h) q path l' ending last s' after e =
       sound_field es q s.values all h path ending last sound l' s' after (ap (λ n. field_on es q n s.values path (feed l' ending last)) (sym count) ∙ e)
 
-  field_complete : ((s : ℕ) (source : Source) → Complete (rd s source) (read s source)) → EntryComplete Got (read_struct g rd c deny l) (field_at (leaf_at g c l) (steps_at g l) (plan_of g c deny l) read) Keeps
+  field_complete : ((s : ℕ) (source : Source) → Complete (rd s source) (read s source)) → EntryComplete Got Trees mean takes Keeps
   field_complete complete es s (all, count, h) q path r rest ending last =
       subst (λ n. Answer es q s.values all h path ending last complete r rest (field_on es q n s.values path (feed (run_events r ++ rest) ending last))) (sym count) (of_field es q s.values all h path ending last complete r rest)
 
-  ok_both : (r : Result Tree Fault) (o : Option Tree) → ok_of r ≡ o → (v : Tree) → ((r ≡ Ok v) → (o ≡ Some v)) × ((o ≡ Some v) → (r ≡ Ok v))
-  ok_both (Ok w) o same v = (λ e. cc, λ e. cc)
-  ok_both (Err f) o same v = (λ e. absurd cc, λ e. absurd cc)
-
-  finishes : Finishes Got (read_struct g rd c deny l) (field_at (leaf_at g c l) (steps_at g l) (plan_of g c deny l) read) Keeps (gathered g c l shape)
+  finishes : Finishes Got Trees mean takes Keeps (gathered_trees g c l shape)
   finishes es s (all, count, h) path input v =
-      let same : read_struct g rd c deny l es ≡ option_map structure (read_layout g kept c l s.values) = ap (λ b. cond b (option_map structure (read_layout g (by_run rd) c l (placed (plan_of g c deny l) 0 es))) None) all ∙ ap (option_map structure) (layout_same g (by_run rd) c l (placed (plan_of g c deny l) 0 es) s.values h) in
-      ok_both (gathered g c l shape s path input) (read_struct g rd c deny l es) (gathered_ok g c l shape s path input ∙ sym same) v
+      let same : mean es ≡ read_layout g kept c l s.values = ap (λ b. cond b (read_layout g (by_run rd) c l (placed (plan_of g c deny l) 0 es)) None) all ∙ layout_same g (by_run rd) c l (placed (plan_of g c deny l) 0 es) s.values h in
+      ok_both (gathered_trees g c l shape s path input) (mean es) (gathered_ok g c l shape s path input ∙ sym same) v
+
+  struct_complete_entry : ((s : ℕ) (source : Source) → Complete (rd s source) (read s source)) → EntryComplete Got Tree (read_struct g rd c deny l) takes Keeps
+  struct_complete_entry complete es s keeps q path r rest ending last =
+      elim (field_complete complete es s keeps q path r rest ending last) [
+        | inl none ↦ inl (λ l'. ap (option_map structure) (none l'))
+        | inr found ↦ inr found
+      ]
+
+  struct_finishes : Finishes Got Tree (read_struct g rd c deny l) takes Keeps (gathered g c l shape)
+  struct_finishes es s keeps path input v = built_both (gathered_trees g c l shape s path input) (mean es) (finishes es s keeps path input) v
+
+  pub entries_sound : ((s : ℕ) (source : Source) → Sound (rd s source) (read s source)) → Sound (read_object mean) (object_at takes nothing_got (gathered_trees g c l shape))
+  entries_sound sound = object_sound Got Trees mean takes Keeps nothing_got (refl, refl, tt) (gathered_trees g c l shape) finishes (field_sound sound)
+
+  pub entries_complete : ((s : ℕ) (source : Source) → Complete (rd s source) (read s source)) → Complete (read_object mean) (object_at takes nothing_got (gathered_trees g c l shape))
+  entries_complete complete = object_complete Got Trees mean takes Keeps nothing_got (refl, refl, tt) (gathered_trees g c l shape) finishes (field_complete complete)
 
   pub struct_sound : ((s : ℕ) (source : Source) → Sound (rd s source) (read s source)) → Sound (read_object (read_struct g rd c deny l)) (struct_at g read c deny l shape)
-  struct_sound sound = object_sound Got (read_struct g rd c deny l) (field_at (leaf_at g c l) (steps_at g l) (plan_of g c deny l) read) Keeps nothing_got (refl, refl, tt) (gathered g c l shape) finishes (field_sound sound)
+  struct_sound sound = object_sound Got Tree (read_struct g rd c deny l) takes Keeps nothing_got (refl, refl, tt) (gathered g c l shape) struct_finishes (field_sound sound)
 
   pub struct_complete : ((s : ℕ) (source : Source) → Complete (rd s source) (read s source)) → Complete (read_object (read_struct g rd c deny l)) (struct_at g read c deny l shape)
-  struct_complete complete = object_complete Got (read_struct g rd c deny l) (field_at (leaf_at g c l) (steps_at g l) (plan_of g c deny l) read) Keeps nothing_got (refl, refl, tt) (gathered g c l shape) finishes (field_complete complete)
+  struct_complete complete = object_complete Got Tree (read_struct g rd c deny l) takes Keeps nothing_got (refl, refl, tt) (gathered g c l shape) struct_finishes (struct_complete_entry complete)

@@ -37,7 +37,7 @@ module _ (terms : Terms) (rd : Reader) (at : ReadsPart) (s : ℕ) (source : Sour
   step_sound sound (map_shape i j) = refused_sound (λ r. None)
   step_sound sound (enum_shape form vs) = refused_sound (λ r. None)
 
-  none_complete : Complete (λ r. None) refused_at
+  none_complete : Complete {A = Tree} (λ r. None) refused_at
   none_complete path r w rest ending last e = absurd cc
 
   step_complete : ((s : ℕ) (source : Source) → Complete (rd s source) (at s source)) → (d : Definition) → Complete (λ r. read_as terms.setting rd s source d r) (value_as terms at s source d)

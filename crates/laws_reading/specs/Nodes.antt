@@ -60,7 +60,7 @@ or_unexpected None path input = unexpected path input
 or_unexpected (Some v) path input = Ok v
 
 -- the node's value at its end
-abbrev pub node_value : Finish Node
+abbrev pub node_value : Finish Node Tree
 node_value s path input = or_unexpected s.value path input
 
 abbrev pub scalar_of : Event → Target → Reads Tree

@@ -184,10 +184,13 @@ gather_flat g whole (suc n) d c spot xs = never spot.path spot.input
 abbrev pub as_structure : Trees → Result Tree Fault
 as_structure vs = Ok (structure vs)
 
--- the struct of what was read, where what is absent is filled
-abbrev pub gathered : Registry → Choice → Layout → ℕ → Finish Got
-gathered g c l shape s path input =
-    gather_fields (gather_flat g l.whole (length g)) g l.whole c (record { shape = shape; path = path; input = input }) 0 l.fields s.values >>= as_structure
+-- the values of the fields that were read, where what is absent is filled
+abbrev pub gathered_trees : Registry → Choice → Layout → ℕ → Finish Got Trees
+gathered_trees g c l shape s path input = gather_fields (gather_flat g l.whole (length g)) g l.whole c (record { shape = shape; path = path; input = input }) 0 l.fields s.values
+
+-- the struct of them
+abbrev pub gathered : Registry → Choice → Layout → ℕ → Finish Got Tree
+gathered g c l shape s path input = gathered_trees g c l shape s path input >>= as_structure
 
 -- a struct of this shape, under a choice of variants
 abbrev pub struct_at : Registry → ReadsPart → Choice → Bool → Layout → ℕ → Reads Tree

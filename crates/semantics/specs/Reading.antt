@@ -105,13 +105,17 @@ read_flat g rd whole (suc n) d c xs = None
 abbrev pub read_layout : {A : Type 0} → Registry → Parts A → Choice → Layout → List (At A) → Option Trees
 read_layout g rd c l xs = read_fields (read_flat g rd l.whole (length g)) g rd l.whole c 0 l.fields xs
 
--- The entries of a struct, under a choice of variants: each key is allowed, and each field is read of what leads to it.
+-- The entries of an object, under a choice of variants, as the values of its fields: each key is allowed, and each field is
+-- read of what leads to it.
+abbrev pub read_entries : Registry → Parts Entry → Choice → Bool → Layout → List Entry → Option Trees
+read_entries g rd c deny l es = cond (are_allowed (plan_of g c deny l) 0 es) (read_layout g rd c l (placed (plan_of g c deny l) 0 es)) None
+
+-- the entries of a struct
 abbrev pub read_struct : Registry → Reader → Choice → Bool → Layout → List Entry → Option Tree
-read_struct g rd c deny l es =
-    cond (are_allowed (plan_of g c deny l) 0 es) (option_map structure (read_layout g (by_run rd) c l (placed (plan_of g c deny l) 0 es))) None
+read_struct g rd c deny l es = option_map structure (read_entries g (by_run rd) c deny l es)
 
 -- an object, whose entries are read so
-abbrev pub read_object : (List Entry → Option Tree) → Run → Option Tree
+abbrev pub read_object : {A : Type 0} → (List Entry → Option A) → Run → Option A
 read_object mean (group of_struct k n i) = option_and_then mean (entries i)
 read_object mean _ = None
 
