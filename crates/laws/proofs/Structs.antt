@@ -76,20 +76,20 @@ FieldsRead g rd _ _ = Unit {0}
 module _ (g : Registry) (rd : Reader) where
   own_read : (f : Field) (v : Tree) (k : ℕ) (x : Document) (xs : List Placed) → write g f.shape v ≡ Ok x → Mixes SamePlace (below k (own_document k (write g f.shape v))) xs
       → ((d : Document) (r : Run) → write g f.shape v ≡ Ok d → Comes d r → ReadAs g f.shape v (rd f.shape from_events r))
-      → ReadAs g f.shape v (read_own g (by_run rd) f xs)
+      → ReadAs g f.shape v (read_own g (by_run g rd) f xs)
   own_read f v k x xs is_x m when_written =
       let one : below k (own_document k (write g f.shape v)) ≡ record { path = []; item = x } ∷ [] = ap (λ o. below k (own_document k o)) is_x ∙ own_here k x in
       let (y, e, (path, (source, comes))) = mixes_one SamePlace (record { path = []; item = x }) xs (subst (λ l. Mixes SamePlace l xs) one m) in
       let (w, read, alike) = when_written x y.item.run is_x comes in
-      (w, ap (read_own g (by_run rd) f) e ∙ ap (λ s. rd f.shape s y.item.run) source ∙ read, alike)
+      (w, ap (read_own g (by_run g rd) f) e ∙ ap (λ s. rd f.shape s y.item.run) source ∙ read, alike)
 
-  field_read : (flat : FlatReader Entry) (whole : Bool) (c : Choice) (f : Field) (xs : List Placed) → IsOwn f → read_field flat g (by_run rd) whole c f xs ≡ read_own g (by_run rd) f xs
-  field_read flat whole c f xs own = ap (λ b. cond (b && not (whole && has_whole xs)) (flat (definition_at g f.shape) c xs) (read_own g (by_run rd) f xs)) own
+  field_read : (flat : FlatReader Entry) (whole : Bool) (c : Choice) (f : Field) (xs : List Placed) → IsOwn f → read_field flat g (by_run g rd) whole c f xs ≡ read_own g (by_run g rd) f xs
+  field_read flat whole c f xs own = ap (λ b. cond (b && not (whole && has_whole xs)) (flat (definition_at g f.shape) c xs) (read_own g (by_run g rd) f xs)) own
 
   pub fields_back : (flat : FlatReader Entry) (whole : Bool) (c : Choice) (k : ℕ) (fs : List Field) (vs : Trees) (ms : Members) (all : List PlacedDocument) (ps : List Placed) → Mixes SamePlace all ps
       → ((i : ℕ) → k ≤ i → below i all ≡ below i (fields_places g k fs vs))
       → Every IsOwn fs → FieldsRead g rd fs vs → write_fields g fs vs ≡ Ok ms
-      → FieldsReadAs g fs vs (read_fields flat g (by_run rd) whole c k fs ps)
+      → FieldsReadAs g fs vs (read_fields flat g (by_run g rd) whole c k fs ps)
   fields_back flat whole c k [] no_trees ms all ps m cut own good e = (no_trees, refl, refl)
   fields_back flat whole c k [] (tree v vs) ms all ps m cut own good e = absurd cc
   fields_back flat whole c k (f ∷ fs) no_trees ms all ps m cut own good e = absurd cc
@@ -101,7 +101,7 @@ module _ (g : Registry) (rd : Reader) where
       cut k (omega arith) ∙ filter_map-append (rest_at k) part rest ∙ ap (λ l. below k part ++ l) (later g fs vs (suc k) k (omega arith)) ∙ append-nil (below k part) in
       let mine = subst (λ l. Mixes SamePlace l (below k ps)) here (below_mixes k all ps m) in
       let (w, read, alike) = own_read f v k x (below k ps) is_x mine when_written in
-      both_read g f fs v vs (read_field flat g (by_run rd) whole (below k c) f (below k ps)) (read_fields flat g (by_run rd) whole c (suc k) fs ps)
+      both_read g f fs v vs (read_field flat g (by_run g rd) whole (below k c) f (below k ps)) (read_fields flat g (by_run g rd) whole c (suc k) fs ps)
       (w, field_read flat whole (below k c) f (below k ps) own ∙ read, alike)
       (fields_back flat whole c (suc k) fs vs ns all ps m
       (λ i le. cut i (omega arith) ∙ filter_map-append (rest_at i) part rest
@@ -153,16 +153,16 @@ none_prefixed (x ∷ l) = ap (λ m. x ∷ m) (none_prefixed l)
 -- The entries of what is written, in any order, are read as the fields.
 pub entries_read : (g : Registry) (rd : Reader) (c : Choice) (deny : Bool) (l : Layout) (vs : Trees) (ms : Members) (es : List Entry)
     → Distinct (keys g l c) → Every IsOwn l.fields → FieldsRead g rd l.fields vs → write_fields g l.fields vs ≡ Ok ms
-    → Mixes Carried (member_list ms) es → FieldsReadAs g l.fields vs (read_entries g (by_run rd) c deny l es)
+    → Mixes Carried (member_list ms) es → FieldsReadAs g l.fields vs (read_entries g (by_run g rd) c deny l es)
 entries_read g rd c deny l vs ms es distinct own good e order =
     let plan = plan_of g c deny l in
     let (declared, places) = fields_placed g plan [] (flat_keys g l.whole (length g)) l.whole c 0 l.fields vs ms (λ x h. first_found (keys g l c) x distinct h) own e in
     let leading = mixes_every Carried (IsDeclared plan) (Leads plan) (carried_leads plan) (member_list ms) es order declared in
     let mixed = mixes_filter Carried SamePlace (place_member plan) (place_entry plan) (places_agree plan) (member_list ms) es order in
-    let (ws, read, alike) = fields_back g rd (read_flat g (by_run rd) l.whole (length g)) l.whole c 0 l.fields vs ms (fields_places g 0 l.fields vs) (filter_map (place_entry plan) es)
+    let (ws, read, alike) = fields_back g rd (read_flat g (by_run g rd) l.whole (length g)) l.whole c 0 l.fields vs ms (fields_places g 0 l.fields vs) (filter_map (place_entry plan) es)
     (subst (λ q. Mixes SamePlace q (filter_map (place_entry plan) es)) (places ∙ none_prefixed (fields_places g 0 l.fields vs)) mixed) (λ i le. refl) own good e in (
       ws,
-      ap (λ b. cond b (read_layout g (by_run rd) c l (placed plan 0 es)) None) (allowed plan 0 es leading) ∙ ap (read_layout g (by_run rd) c l) (placed_is plan 0 es leading) ∙ read,
+      ap (λ b. cond b (read_layout g (by_run g rd) c l (placed plan 0 es)) None) (allowed plan 0 es leading) ∙ ap (read_layout g (by_run g rd) c l) (placed_is plan 0 es leading) ∙ read,
       alike,
     )
 

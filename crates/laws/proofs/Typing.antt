@@ -10,7 +10,7 @@ use Rattle.semantics.specs.Typed.{on_some, base, scalar_of, option_of, ok_of, er
 use Rattle.semantics.specs.Numerals.{only}
 use Rattle.semantics.specs.Places.{At, below, has_whole, Choice}
 use Rattle.semantics.specs.Keys.{Layout, plan_of, placed, are_allowed}
-use Rattle.semantics.specs.Reading.{Setting, Source, from_events, Reader, Parts, by_run, absent, or_value, fill, read_own, FlatReader, in_parts, read_field, and_trees, read_fields, read_flat, read_layout, read_entries, read_struct, read_object, plain_layout, holds_nothing, is_nothing, read_option, read_sequence, read_each, read_items, by_outcome, read_outcome, read_result, read_elements, entry_runs, read_tuple, read_as, read_shape, read}
+use Rattle.semantics.specs.Reading.{Setting, Source, from_events, Reader, of_shape, Parts, by_run, absent, or_value, fill, read_own, FlatReader, in_parts, read_field, and_trees, read_fields, read_flat, read_layout, read_entries, read_struct, read_object, plain_layout, holds_nothing, is_nothing, read_option, read_sequence, read_each, read_items, by_outcome, read_outcome, read_result, read_elements, entry_runs, read_tuple, read_as, read_shape, read}
 use Rattle.laws.proofs.Tests.{both, is_both, if_true, mapped, bound}
 use Rattle.laws.proofs.Built.{BuiltField, struct_built, built, base_is}
 use Rattle.laws.proofs.Bases.{base_inner}
@@ -37,7 +37,7 @@ absent_typed g s (Some _) v at e = absurd cc
 pub fill_typed : (g : Registry) (f : Field) → BuiltField f → FillIsTyped g f
 fill_typed g f b v e = absent_typed g f.shape (definition_at g f.shape) v refl (sym (ap (λ o. or_value o (absent (definition_at g f.shape))) b.default) ∙ e)
 
-module _ (g : Registry) {A : Type 0} (rd : Parts A) (parts : (s : ℕ) (x : A) (v : Tree) → rd.value_of s x ≡ Some v → typed g s v ≡ true) where
+module _ (g : Registry) {A : Type 0} (rd : Parts A) (parts : (s : ℕ) (x : A) (v : Tree) → rd.value_of (of_shape s) x ≡ Some v → typed g s v ≡ true) where
   own_typed : (f : Field) → FillIsTyped g f → (xs : List (At A)) (v : Tree) → read_own g rd f xs ≡ Some v → typed g f.shape v ≡ true
   own_typed f filled [] v e = filled v e
   own_typed f filled (x ∷ []) v e = parts f.shape x.item v e
@@ -68,10 +68,10 @@ entries_inverted g rd c deny l es vs e =
     (xs, (if_true (are_allowed (plan_of g c deny l) 0 es) (read_layout g rd c l xs) vs e).1)
 
 struct_inverted : (g : Registry) (rd : Reader) (c : Choice) (deny : Bool) (l : Layout) (es : List Entry) (v : Tree) → read_struct g rd c deny l es ≡ Some v
-    → (xs : List (At Entry)) × (vs : Trees) × (read_layout g (by_run rd) c l xs ≡ Some vs) × (structure vs ≡ v)
+    → (xs : List (At Entry)) × (vs : Trees) × (read_layout g (by_run g rd) c l xs ≡ Some vs) × (structure vs ≡ v)
 struct_inverted g rd c deny l es v e =
-    let (vs, read_all, value) = mapped structure (read_entries g (by_run rd) c deny l es) v e in
-    let (xs, is) = entries_inverted g (by_run rd) c deny l es vs read_all in
+    let (vs, read_all, value) = mapped structure (read_entries g (by_run g rd) c deny l es) v e in
+    let (xs, is) = entries_inverted g (by_run g rd) c deny l es vs read_all in
     (xs, vs, is, value)
 
 -- what is typed depends on what the shape is made of alone
@@ -224,7 +224,7 @@ module _ (g : Setting) (checked : IsRegistry g.registry) (rd : Reader) (parts : 
       let (es, mean) = object_read (read_struct g.registry rd [] d.deny (plain_layout d)) r v e in
       let (xs, vs, read_all, value) = struct_inverted g.registry rd [] d.deny (plain_layout d) es v mean in
       structure_typed s d is vs v value
-      (fields_are_typed g.registry (by_run rd) (λ t x w h. parts t _ x.run w h) (read_flat g.registry (by_run rd) false (length g.registry)) false [] 0 d.fields xs vs (filled d.fields fields) read_all)
+      (fields_are_typed g.registry (by_run g.registry rd) (λ t x w h. parts t _ x.run w h) (read_flat g.registry (by_run g.registry rd) false (length g.registry)) false [] 0 d.fields xs vs (filled d.fields fields) read_all)
 
   struct_typed : (s : ℕ) (d : StructShape) → base g.registry s ≡ Some (struct_shape d) → Every BuiltField d.fields → (r : Run) (v : Tree) (b : Bool)
       → cond b (read_tuple g.registry rd d r) (read_object (read_struct g.registry rd [] d.deny (plain_layout d)) r) ≡ Some v → typed g.registry s v ≡ true

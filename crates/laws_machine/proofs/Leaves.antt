@@ -9,7 +9,7 @@ use Rattle.semantics.specs.Keys.{leads, is_allowed}
 use Rattle.semantics.specs.Registry.{has_some}
 use Rattle.semantics.specs.Setters.{Outcome, set_scalar}
 use Rattle.semantics.specs.Typed.{has_length}
-use Rattle.semantics.specs.Reading.{Source, from_events, source_of, key_text, fill, in_parts, is_argument, is_key, is_nothing}
+use Rattle.semantics.specs.Reading.{Source, from_events, Part, of_shape, of_variant, of_tag, of_entry, source_of, key_text, fill, in_parts, is_argument, is_key, is_nothing}
 use Rattle.semantics.specs.Causes.{is_nothing_event, ends_sequence, has_room}
 use Rattle.laws_reading.specs.Input.{Input, ◌>>=◌, refused, unexpected, never}
 use Rattle.laws_reading.specs.Skips.{Opened, same_bracket, stopped, skip_of}
@@ -23,7 +23,7 @@ use Rattle.laws_reading.specs.Tuples as tuples
 use Rattle.laws_reading.specs.Values.{Terms}
 use Rattle.laws_machine.specs.Frames.{awaits, option, items, elements, keyed, keyed_item, object, field, outcome_key, outcome_side, outcome_end, node, argument, passing, Frames, ItemsPart, TuplePart, StructPart, ResultPart, NodePart, path}
 use Rattle.laws_machine.specs.Delivery.{going, complete, Steps, here, deliver, handed, past_key, with_argument}
-use Rattle.laws_machine.specs.Begins.{begin_scalar, begin_option, begin_result, begin_items, begin_struct, begin_as, begin, await_as, await}
+use Rattle.laws_machine.specs.Begins.{begin_scalar, begin_option, begin_result, begin_items, begin_struct, begin_as, begin, await_as, await, await_end}
 use Rattle.laws_machine.specs.Steps.{more_step, item_step, as_tuple, tuple_step, element_in, element_step, keyed_in, keyed_step, entry_step, plan_in, entered, end_step, lead_step, field_step, struct_end, side_step, close_step, pass_on, pass_behind, argument_step, node_step, set_in, set_step}
 use Rattle.laws_machine.specs.Leaves.{unless, leaves_as, begin_leaves, or_past, element_leaves, At, FaultsStand}
 
@@ -143,6 +143,12 @@ module _ (span : Span) where
         by_definition (Some (enum_shape form vs)) again = at_ok span _
         by_definition (Some (transparent_shape i)) again = again i
 
+    at_part : (n : ℕ) (p : Part) (q : Key) (fs : Frames) → At span (await_end t n p q fs span)
+    at_part n (of_shape s) q fs = at_await n s (source_of q) fs
+    at_part n (of_variant j v) q fs = at_never (path t fs) (here span) span
+    at_part n (of_tag x) q fs = at_never (path t fs) (here span) span
+    at_part n (of_entry i j) q fs = at_never (path t fs) (here span) span
+
     at_tuple : (l : TuplePart) (fs : Frames) → At span (tuple_step t l fs span)
     at_tuple l fs =
         at_bind span (filled_from t.setting.registry l.elements.shape (drop (length l.front) l.elements.fields) l.front (path t fs) (here span)) (as_tuple fs)
@@ -173,9 +179,9 @@ at_end : (t : Terms) (o : Option End) (s : StructPart) (p : Path) (q : Key) (fs 
 at_end t None s p q fs = at_never _ (here (key_note q).span) (key_note q).span
 at_end t (Some o) s p q fs = by_taken (not o.many && is_taken p s.got.values)
   where
-    by_taken : (b : Bool) → At (key_note q).span (cond b (refused (duplicate_field (key_text q) (taken_span p s.got.values)) (path t fs) (here (key_note q).span)) (await t s.depth o.shape (source_of q) (field s (entered p q) ∷ fs) (key_note q).span))
+    by_taken : (b : Bool) → At (key_note q).span (cond b (refused (duplicate_field (key_text q) (taken_span p s.got.values)) (path t fs) (here (key_note q).span)) (await_end t s.depth o.part q (field s (entered p q) ∷ fs) (key_note q).span))
     by_taken true = at_refused _ (path t fs) (key_note q).span
-    by_taken false = at_await (key_note q).span t s.depth o.shape (source_of q) (field s (entered p q) ∷ fs)
+    by_taken false = at_part (key_note q).span t s.depth o.part q (field s (entered p q) ∷ fs)
 
 -- a key of a struct or of a node
 at_struct_key : (t : Terms) (s : StructPart) (fs : Frames) (q : Key) → At (key_note q).span (field_step t s fs q)

@@ -3,18 +3,18 @@ use Rattle.std.proofs.Common.{◌≡◌, ℕ, ◌+◌, ◌≤◌, List, [], ◌�
 use Rattle.semantics.specs.Trees.{Tree}
 use Rattle.semantics.specs.Shapes.{StructShape, Registry}
 use Rattle.semantics.specs.Events.{Span, Key, key_note, scalar, key, tag, of_struct, of_sequence, Event, leaf, start, stop, span_of}
-use Rattle.semantics.specs.Faults.{duplicate_field, Fault, Ending}
+use Rattle.semantics.specs.Faults.{Step, duplicate_field, Fault, Ending}
 use Rattle.semantics.specs.Places.{Path}
 use Rattle.semantics.specs.Keys.{Plan, plan_of, leads, after_key, is_allowed}
-use Rattle.semantics.specs.Reading.{source_of, key_text, plain_layout}
+use Rattle.semantics.specs.Reading.{Part, of_shape, of_variant, of_tag, of_entry, source_of, key_text, plain_layout}
 use Rattle.laws_reading.specs.Input.{Input, feed, ◌>>=◌, refused, unexpected}
 use Rattle.laws_reading.specs.Objects.{Takes}
 use Rattle.laws_reading.specs.Skips.{Opened, skip_at}
-use Rattle.laws_reading.specs.Structs.{Got, nothing_got, End, leaf_at, steps_at, is_taken, taken_span, got_value, at_end_of, passed_over, at_path, field_at, gathered, struct_at}
+use Rattle.laws_reading.specs.Structs.{Got, nothing_got, end_at, End, leaf_at, steps_at, is_taken, taken_span, got_value, at_end_of, passed_over, at_path, field_at, gathered, struct_at}
 use Rattle.laws_reading.specs.Values.{Terms, reading}
 use Rattle.laws_machine.specs.Frames.{Frame, object, field, Frames, StructPart, path}
 use Rattle.laws_machine.specs.Delivery.{with_got, past_key}
-use Rattle.laws_machine.specs.Begins.{begin_object, new_object, await}
+use Rattle.laws_machine.specs.Begins.{begin_object, new_object, await_end}
 use Rattle.laws_machine.specs.Steps.{entered, end_step, lead_step, field_step, struct_end}
 use Rattle.laws_machine.specs.Machine.{run, on}
 use Rattle.laws_machine.proofs.Turns.{resume, Meets, skip_meets, entries_meet}
@@ -29,7 +29,7 @@ module _ (t : Terms) (n : ℕ) (meets : Meets t n) (s : ℕ) (d : StructShape) w
   plan = plan_of registry [] d.deny (plain_layout d)
 
   abbrev takes : Takes Got
-  takes = field_at (leaf_at registry [] (plain_layout d)) (steps_at registry (plain_layout d)) plan (reading t n)
+  takes = field_at (leaf_at registry [] (plain_layout d)) (steps_at registry (plain_layout d)) plan (end_at (reading t n))
 
   abbrev part : Got → StructPart
   part got = with_got (new_object s d n) got
@@ -37,27 +37,40 @@ module _ (t : Terms) (n : ℕ) (meets : Meets t n) (s : ℕ) (d : StructShape) w
   abbrev frame : Got → Frame
   frame got = object (part got)
 
+  end_falls : (p : Part) (q : Key) (path : List Step) (input : Input) (x : Tree × Input) → end_at (reading t n) p q path input ≡ Ok x → length x.1.events ≤ length input.events
+  end_falls (of_shape s) q path input x e = omega (arith, reading_falls t n s (source_of q) path input x e)
+  end_falls (of_variant j v) q path input x e = absurd cc
+  end_falls (of_tag u) q path input x e = absurd cc
+  end_falls (of_entry i j) q path input x e = absurd cc
+
+  -- what stands at the end of a path is read as it is awaited
+  end_meets : (p : Part) (q : Key) (fs : Frames) (input : Input) → (await_end t n p q fs input.last >>= on t input) ≡ (end_at (reading t n) p q (path t fs) input >>= resume t fs)
+  end_meets (of_shape s) q fs input = meets s (source_of q) fs input
+  end_meets (of_variant j v) q fs input = refl
+  end_meets (of_tag u) q fs input = refl
+  end_meets (of_entry i j) q fs input = refl
+
   module _ (got : Got) (fs : Frames) (q : Key) (es : List Event) (ending : Ending) (then : Got → Input → Result (Tree × Input) Fault)
       (again : (got' : Got) (rest : Input) → length rest.events ≤ length es → run t (frame got' ∷ fs) rest ≡ then got' rest) where
     abbrev here_on : Input
     here_on = feed es ending (key_note q).span
 
-    by_value : (p : Path) (o : End) (r : Result (Tree × Input) Fault) → reading t n o.shape (source_of q) (path t fs ++ steps_at registry (plain_layout d) p) here_on ≡ r
+    by_value : (p : Path) (o : End) (r : Result (Tree × Input) Fault) → end_at (reading t n) o.part q (path t fs ++ steps_at registry (plain_layout d) p) here_on ≡ r
         → (r >>= resume t (field (past_key (part got) q) (entered p q) ∷ fs)) ≡ ((r >>= got_value (after_key got.count q) got.values p q) >>= λ x. then x.0 x.1)
-    by_value p o (Ok x) is = again _ x.1 (omega (arith, reading_falls t n o.shape (source_of q) _ here_on x is))
+    by_value p o (Ok x) is = again _ x.1 (omega (arith, end_falls o.part q _ here_on x is))
     by_value p o (Err f) is = refl
 
     by_taken : (p : Path) (o : End) (b : Bool)
-        → (cond b (refused (duplicate_field (key_text q) (taken_span p got.values)) (path t fs) here_on) (await t n o.shape (source_of q) (field (past_key (part got) q) (entered p q) ∷ fs) (key_note q).span) >>= on t here_on)
+        → (cond b (refused (duplicate_field (key_text q) (taken_span p got.values)) (path t fs) here_on) (await_end t n o.part q (field (past_key (part got) q) (entered p q) ∷ fs) (key_note q).span) >>= on t here_on)
         ≡ (cond b (refused (duplicate_field (key_text q) (taken_span p got.values)) (path t fs) here_on)
-        (reading t n o.shape (source_of q) (path t fs ++ steps_at registry (plain_layout d) p) here_on >>= got_value (after_key got.count q) got.values p q) >>= λ x. then x.0 x.1)
+        (end_at (reading t n) o.part q (path t fs ++ steps_at registry (plain_layout d) p) here_on >>= got_value (after_key got.count q) got.values p q) >>= λ x. then x.0 x.1)
     by_taken p o true = refl
     by_taken p o false =
-        meets o.shape (source_of q) (field (past_key (part got) q) (entered p q) ∷ fs) here_on
-        ∙ by_value p o (reading t n o.shape (source_of q) (path t fs ++ steps_at registry (plain_layout d) p) here_on) refl
+        end_meets o.part q (field (past_key (part got) q) (entered p q) ∷ fs) here_on
+        ∙ by_value p o (end_at (reading t n) o.part q (path t fs ++ steps_at registry (plain_layout d) p) here_on) refl
 
     by_end : (p : Path) (o : Option End) → (end_step o t (past_key (part got) q) p q fs >>= on t here_on)
-        ≡ (at_end_of o (steps_at registry (plain_layout d) p) (reading t n) p q (after_key got.count q) got.values (path t fs) here_on >>= λ x. then x.0 x.1)
+        ≡ (at_end_of o (steps_at registry (plain_layout d) p) (end_at (reading t n)) p q (after_key got.count q) got.values (path t fs) here_on >>= λ x. then x.0 x.1)
     by_end p None = refl
     by_end p (Some o) = by_taken p o (not o.many && is_taken p got.values)
 
@@ -67,12 +80,12 @@ module _ (t : Terms) (n : ℕ) (meets : Meets t n) (s : ℕ) (d : StructShape) w
     by_skip (Err f) is = refl
 
     by_lead : (o : Option Path) → (lead_step o t (part got) q fs >>= on t here_on)
-        ≡ (at_path (leaf_at registry [] (plain_layout d)) (steps_at registry (plain_layout d)) o (reading t n) q (after_key got.count q) got.values (path t fs) here_on >>= λ x. then x.0 x.1)
+        ≡ (at_path (leaf_at registry [] (plain_layout d)) (steps_at registry (plain_layout d)) o (end_at (reading t n)) q (after_key got.count q) got.values (path t fs) here_on >>= λ x. then x.0 x.1)
     by_lead None = skip_meets t (object (past_key (part got) q) ∷ fs) here_on ∙ by_skip (skip_at (path t fs) here_on) refl
     by_lead (Some p) = by_end p (leaf_at registry [] (plain_layout d) p)
 
     by_allowed : (b : Bool) → (cond b (lead_step (leads plan got.count q) t (part got) q fs) (unexpected (path t fs) here_on) >>= on t here_on)
-        ≡ (cond b (at_path (leaf_at registry [] (plain_layout d)) (steps_at registry (plain_layout d)) (leads plan got.count q) (reading t n) q (after_key got.count q) got.values (path t fs) here_on) (unexpected (path t fs) here_on)
+        ≡ (cond b (at_path (leaf_at registry [] (plain_layout d)) (steps_at registry (plain_layout d)) (leads plan got.count q) (end_at (reading t n)) q (after_key got.count q) got.values (path t fs) here_on) (unexpected (path t fs) here_on)
         >>= λ x. then x.0 x.1)
     by_allowed true = by_lead (leads plan got.count q)
     by_allowed false = refl
@@ -81,7 +94,7 @@ module _ (t : Terms) (n : ℕ) (meets : Meets t n) (s : ℕ) (d : StructShape) w
     field_meets = by_allowed (is_allowed plan got.count q)
 
   pub struct_meets : (fs : Frames) (e : Event) (es : List Event) (ending : Ending) (last : Span)
-      → (begin_object t (new_object s d n) fs e >>= on t (feed es ending (span_of e))) ≡ (struct_at registry (reading t n) [] d.deny (plain_layout d) s (path t fs) (feed (e ∷ es) ending last) >>= resume t fs)
+      → (begin_object t (new_object s d n) fs e >>= on t (feed es ending (span_of e))) ≡ (struct_at registry (end_at (reading t n)) [] d.deny (plain_layout d) s (path t fs) (feed (e ∷ es) ending last) >>= resume t fs)
   struct_meets fs (start of_struct c m) es ending last =
       entries_meet t takes (gathered registry [] (plain_layout d) s) frame (λ got fs q. field_step t (part got) fs q) (λ got fs span. struct_end t (part got) fs span)
       (λ got fs last e. refl) (λ got fs input. gathered_here registry [] (plain_layout d) s got (path t fs) input) field_meets (length es + 1) nothing_got fs es ending m.span (omega arith)

@@ -2,12 +2,12 @@
 use Rattle.std.specs.Prelude.{ℕ, zero, suc, [], ◌∷◌, Option, Some, None, Ok, Bool, true, false, not, ◌&&◌}
 use Rattle.semantics.specs.Trees.{none}
 use Rattle.semantics.specs.Shapes.{StructShape, is_tuple, Definition, scalar_shape, option_shape, result_shape, list_shape, array_shape, struct_shape, transparent_shape, definition_at}
-use Rattle.semantics.specs.Events.{Span, scalar, of_struct, of_sequence, object_kind, Event, leaf, start, span_of}
+use Rattle.semantics.specs.Events.{Span, Key, scalar, of_struct, of_sequence, object_kind, Event, leaf, start, span_of}
 use Rattle.semantics.specs.Faults.{too_deep}
 use Rattle.semantics.specs.Registry.{has_some}
-use Rattle.semantics.specs.Reading.{Source, from_events, is_nothing, plain_layout}
+use Rattle.semantics.specs.Reading.{Source, from_events, Part, of_shape, of_variant, of_tag, of_entry, source_of, is_nothing, plain_layout}
 use Rattle.semantics.specs.Causes.{is_nothing_event}
-use Rattle.laws_reading.specs.Input.{◌>>=◌, refused, unexpected}
+use Rattle.laws_reading.specs.Input.{◌>>=◌, refused, unexpected, never}
 use Rattle.laws_reading.specs.Structs.{nothing_got}
 use Rattle.laws_reading.specs.Nodes.{Target, set_at, bare_node}
 use Rattle.laws_reading.specs.Sequences.{Items}
@@ -107,3 +107,10 @@ await_as again n s source _ fs last = Ok (going (awaits (record { shape = s; dep
 abbrev pub await : Terms → ℕ → ℕ → Source → Awaits
 await t zero s source fs last = refused (too_deep t.limit) (path t fs) (here last)
 await t (suc n) s source fs last = await_as (await t n) n s source (definition_at t.setting.registry s) fs last
+
+-- What stands at the end of a path has to come, behind its key. Only values of shapes stand there yet.
+abbrev pub await_end : Terms → ℕ → Part → Key → Awaits
+await_end t n (of_shape s) q fs last = await t n s (source_of q) fs last
+await_end t n (of_variant j v) q fs last = never (path t fs) (here last)
+await_end t n (of_tag x) q fs last = never (path t fs) (here last)
+await_end t n (of_entry i j) q fs last = never (path t fs) (here last)

@@ -40,7 +40,7 @@ with_got s got = record { shape = s.shape; deny = s.deny; layout = s.layout; dep
 
 -- what is told behind a key
 abbrev pub told_behind : Entered → Tree → At Told
-told_behind e v = record { path = e.path; item = record { name = e.name; span = e.span; value = v } }
+told_behind e v = record { path = e.path; item = record { span = e.span; value = v } }
 
 -- one more value of a struct, under its key
 abbrev pub with_field : StructPart → Entered → Tree → StructPart

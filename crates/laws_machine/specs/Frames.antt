@@ -1,5 +1,6 @@
 -- What is open while a value is read, one frame in another.
 use Rattle.std.specs.Prelude.{ℕ, List, [], ◌∷◌, ◌++◌, length, Bool}
+use Rattle.semantics.specs.Texts.{Phrase}
 use Rattle.semantics.specs.Trees.{Tree}
 use Rattle.semantics.specs.Events.{Span}
 use Rattle.semantics.specs.Faults.{Step, index_step, variant_step}
@@ -39,10 +40,10 @@ pub record StructPart : Type 0 where
   pub depth : ℕ
   pub got : Got
 
--- the path that a key leads to whose value comes, the text of the key, and where it stands
+-- the path that a key leads to whose value comes, the text of the key with whether it is borrowed, and where it stands
 pub record Entered : Type 0 where
   pub path : Path
-  pub name : List ℕ
+  pub name : Phrase
   pub span : Span
 
 -- what was told of a result so far

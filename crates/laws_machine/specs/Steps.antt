@@ -6,7 +6,7 @@ use Rattle.semantics.specs.Events.{Span, Key, key_note, scalar, key, of_struct, 
 use Rattle.semantics.specs.Faults.{too_many_elements, duplicate_field, reflect, Fault}
 use Rattle.semantics.specs.Places.{Path}
 use Rattle.semantics.specs.Keys.{Plan, plan_of, leads, is_allowed}
-use Rattle.semantics.specs.Reading.{from_events, key_text, source_of, is_argument, is_key}
+use Rattle.semantics.specs.Reading.{from_events, key_phrase, key_text, is_argument, is_key}
 use Rattle.semantics.specs.Causes.{ends_sequence, has_room}
 use Rattle.semantics.specs.Typed.{has_length}
 use Rattle.laws_reading.specs.Input.{Input, ◌>>=◌, refused, unexpected, never}
@@ -19,7 +19,7 @@ use Rattle.laws_reading.specs.Tuples.{filled_from}
 use Rattle.laws_reading.specs.Values.{Terms}
 use Rattle.laws_machine.specs.Frames.{ItemsPart, TuplePart, StructPart, Entered, ResultPart, NodePart, awaits, items, elements, keyed, keyed_item, object, field, outcome_key, outcome_side, outcome_end, node, argument, passing, Frames, path}
 use Rattle.laws_machine.specs.Delivery.{going, Steps, here, no_step, past_key, with_argument, deliver, handed}
-use Rattle.laws_machine.specs.Begins.{Begins, begin, Awaits, await}
+use Rattle.laws_machine.specs.Begins.{Begins, begin, Awaits, await, await_end}
 
 -- one more item, or too many of them: the event is left then, so the fault stands at the one before
 abbrev pub more_step : Bool → Terms → ItemsPart → Begins
@@ -76,7 +76,7 @@ plan_in t s = plan_of t.setting.registry [] s.deny s.layout
 
 -- a key that leads to a path
 abbrev pub entered : Path → Key → Entered
-entered p q = record { path = p; name = key_text q; span = (key_note q).span }
+entered p q = record { path = p; name = key_phrase q; span = (key_note q).span }
 
 -- the value of a key that leads to this end
 abbrev pub end_step : Option End → Terms → StructPart → Path → Key → Frames → Steps
@@ -84,7 +84,7 @@ end_step None t s p q fs = never (path t fs) (here (key_note q).span)
 end_step (Some o) t s p q fs =
     cond (not o.many && is_taken p s.got.values)
     (refused (duplicate_field (key_text q) (taken_span p s.got.values)) (path t fs) (here (key_note q).span))
-    (await t s.depth o.shape (source_of q) (field s (entered p q) ∷ fs) (key_note q).span)
+    (await_end t s.depth o.part q (field s (entered p q) ∷ fs) (key_note q).span)
 
 -- the value of a key that leads there, or that is passed over
 abbrev pub lead_step : Option Path → Terms → StructPart → Key → Frames → Steps

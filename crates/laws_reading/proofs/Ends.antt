@@ -13,7 +13,7 @@ abbrev pub Ends : Type 0
 Ends = Path → Option End
 
 abbrev pub IsKept : {A : Type 0} → Ends → Parts A → At A → At Told → Type 0
-IsKept ends rd x y = (e : End) × (ends x.path ≡ Some e) × (rd.value_of e.shape x.item ≡ Some y.item.value) × (rd.name_of x.item ≡ y.item.name) × (x.path ≡ y.path)
+IsKept ends rd x y = (e : End) × (ends x.path ≡ Some e) × (rd.value_of e.part x.item ≡ Some y.item.value) × (x.path ≡ y.path)
 
 -- these values were read of these runs, at the same paths
 abbrev pub Kept : {A : Type 0} → Ends → Parts A → List (At A) → List (At Told) → Type 0
@@ -33,13 +33,13 @@ module _ {A : Type 0} (ends : Ends) (rd : Parts A) where
   kept_as other same [] [] h = tt
   kept_as other same [] (y ∷ ys) h = absurd h
   kept_as other same (x ∷ xs) [] h = absurd h
-  kept_as other same (x ∷ xs) (y ∷ ys) ((s, end, reads, name, path), more) = ((s, sym (same x.path) ∙ end, reads, name, path), kept_as other same xs ys more)
+  kept_as other same (x ∷ xs) (y ∷ ys) ((s, end, reads, path), more) = ((s, sym (same x.path) ∙ end, reads, path), kept_as other same xs ys more)
 
   pub kept_below : (k : ℕ) (xs : List (At A)) (ys : List (At Told)) → Kept ends rd xs ys → Kept (λ p. ends (k ∷ p)) rd (below k xs) (below k ys)
   kept_below k [] [] h = tt
   kept_below k [] (y ∷ ys) h = absurd h
   kept_below k (x ∷ xs) [] h = absurd h
-  kept_below k (x ∷ xs) (y ∷ ys) ((s, end, reads, name, same), more) =
+  kept_below k (x ∷ xs) (y ∷ ys) ((s, end, reads, same), more) =
       subst (λ q. Kept (λ p. ends (k ∷ p)) rd (cons_option (rest_of k x.path x.item) (below k xs)) (cons_option (rest_of k q y.item) (below k ys))) same (by_path x.path end (kept_below k xs ys more))
     where
       by_path : (p : Path) → ends p ≡ Some s → Kept (λ p. ends (k ∷ p)) rd (below k xs) (below k ys)
@@ -50,19 +50,19 @@ module _ {A : Type 0} (ends : Ends) (rd : Parts A) where
           by_test : (b : Bool) → (j == k) ≡ b
               → Kept (λ p. ends (k ∷ p)) rd (cons_option (cond b (Some (record { path = p; item = x.item })) None) (below k xs)) (cons_option (cond b (Some (record { path = p; item = y.item })) None) (below k ys))
           by_test false is = more
-          by_test true is = let there : k ≡ j = grind (arith, is) in ((s, ap (λ i. ends (i ∷ p)) there ∙ end, reads, name, refl), more)
+          by_test true is = let there : k ≡ j = grind (arith, is) in ((s, ap (λ i. ends (i ∷ p)) there ∙ end, reads, refl), more)
 
 pub whole_kept : {A : Type 0} (ends : Ends) (rd : Parts A) (xs : List (At A)) (ys : List (At Told)) → Kept ends rd xs ys → has_whole xs ≡ has_whole ys
 whole_kept ends rd [] [] h = refl
 whole_kept ends rd [] (y ∷ ys) h = absurd h
 whole_kept ends rd (x ∷ xs) [] h = absurd h
-whole_kept ends rd (x ∷ xs) (y ∷ ys) ((s, end, reads, name, path), more) = ap₂ (λ p b. is_end p || b) path (whole_kept ends rd xs ys more)
+whole_kept ends rd (x ∷ xs) (y ∷ ys) ((s, end, reads, path), more) = ap₂ (λ p b. is_end p || b) path (whole_kept ends rd xs ys more)
 
 -- what stands for the whole is something that may
 pub whole_ends : {A : Type 0} (ends : Ends) (rd : Parts A) (xs : List (At A)) (ys : List (At Told)) → Kept ends rd xs ys → has_whole xs ≡ true → (s : End) × (ends [] ≡ Some s)
 whole_ends ends rd [] ys h e = absurd cc
 whole_ends ends rd (x ∷ xs) [] h e = absurd h
-whole_ends ends rd (x ∷ xs) (y ∷ ys) ((s, end, reads, name, path), more) e = by_path x.path end e (whole_ends ends rd xs ys more)
+whole_ends ends rd (x ∷ xs) (y ∷ ys) ((s, end, reads, path), more) e = by_path x.path end e (whole_ends ends rd xs ys more)
   where
     by_path : (p : Path) → ends p ≡ Some s → (is_end p || has_whole xs) ≡ true → (has_whole xs ≡ true → (s : End) × (ends [] ≡ Some s)) → (s : End) × (ends [] ≡ Some s)
     by_path [] end e rec = (s, end)
@@ -73,9 +73,9 @@ pub kept_parts : {A : Type 0} (ends other : Ends) (rd : Parts A) → ((k : ℕ) 
 kept_parts ends other rd same [] [] e h = tt
 kept_parts ends other rd same [] (y ∷ ys) e h = absurd h
 kept_parts ends other rd same (x ∷ xs) [] e h = absurd h
-kept_parts ends other rd same (x ∷ xs) (y ∷ ys) e ((s, end, reads, name, path), more) =
+kept_parts ends other rd same (x ∷ xs) (y ∷ ys) e ((s, end, reads, path), more) =
     let (first, rest) = by_path x.path end e in
-    ((s, first, reads, name, path), kept_parts ends other rd same xs ys rest more)
+    ((s, first, reads, path), kept_parts ends other rd same xs ys rest more)
   where
     by_path : (p : Path) → ends p ≡ Some s → (is_end p || has_whole xs) ≡ false → (other p ≡ Some s) × (has_whole xs ≡ false)
     by_path [] end e = absurd cc
@@ -104,7 +104,7 @@ end_is o (k ∷ p) s e = absurd cc
 
 -- what stands here isn't read, or it stands where one thing may, and something is
 abbrev pub Lost : {A : Type 0} → Parts A → End → A → Path → List (At A) → Type 0
-Lost rd e r p xs = (rd.value_of e.shape r ≡ None) ⊎ ((not e.many && is_taken p xs) ≡ true)
+Lost rd e r p xs = (rd.value_of e.part r ≡ None) ⊎ ((not e.many && is_taken p xs) ≡ true)
 
 module _ (g : Registry) (whole : Bool) where
   -- from the k-th on these are the fields to which the paths lead

@@ -10,12 +10,12 @@ use Rattle.semantics.specs.Faults.{Step, field_step, unexpected_token, duplicate
 use Rattle.semantics.specs.Runs.{Inside, Run, one, group, tagged, run_events, Entry, entries, entries_events}
 use Rattle.semantics.specs.Places.{Path, At, below}
 use Rattle.semantics.specs.Keys.{Plan, plan_of, leads, after_key, placed, is_allowed}
-use Rattle.semantics.specs.Reading.{Source, key_text, source_of, by_run, plain_layout, read_layout, read_struct, read_object, read_tuple, read_shape, read}
+use Rattle.semantics.specs.Reading.{Source, key_text, source_of, part_value, by_run, plain_layout, read_layout, read_struct, read_object, read_tuple, read_shape, read}
 use Rattle.semantics.specs.Causes.{IsOpen, last_span, Part, IsObject, Begun, field_part, ordered_count, enters_field, stands_for_part, takes_object, passes, in_object, Collide, same_part}
 use Rattle.laws_reading.specs.Input.{Input, feed, unexpected}
 use Rattle.laws_reading.specs.Objects.{Takes}
 use Rattle.laws_reading.specs.Skips.{skip_at}
-use Rattle.laws_reading.specs.Structs.{Told, Got, nothing_got, End, leaf_at, steps_at, is_taken, taken_span, got_value, passed_over, field_at, Spot, gather_fields, gather_flat, as_structure, gathered, struct_at}
+use Rattle.laws_reading.specs.Structs.{Told, Got, nothing_got, ReadsPart, end_at, End, leaf_at, steps_at, is_taken, taken_span, got_value, passed_over, field_at, Spot, gather_fields, gather_flat, as_structure, gathered, struct_at}
 use Rattle.laws_reading.specs.Values.{Terms, reading}
 use Rattle.laws_reading.specs.Laws.{Sound}
 use Rattle.laws_reading.specs.Causes.{fault, Cause, missing_at, duplicate_at, part_of, Fails}
@@ -46,7 +46,7 @@ module _ (terms : Terms) (n s : ℕ) (source : Source) (d : StructShape)
   plan = plan_of g [] d.deny (plain_layout d)
 
   abbrev takes : Takes Got
-  takes = field_at (leaf_at g [] (plain_layout d)) (steps_at g (plain_layout d)) plan (reading terms n)
+  takes = field_at (leaf_at g [] (plain_layout d)) (steps_at g (plain_layout d)) plan (end_at (reading terms n))
 
   abbrev mean : List Entry → Option Tree
   mean = read_struct g (read terms.setting n) [] d.deny (plain_layout d)
@@ -96,7 +96,7 @@ module _ (terms : Terms) (n s : ℕ) (source : Source) (d : StructShape)
     module _ (q : Key) where
       denied : is_allowed plan (ordered_count 0 more) q ≡ false → (r : Run) (later : List Entry) → mean (more ++ (entry q r ∷ later)) ≡ None
       denied no_key r later =
-          ap (λ b. option_map structure (cond b (read_layout g (by_run (read terms.setting n)) [] (plain_layout d) (placed plan 0 (more ++ (entry q r ∷ later)))) None)) (not_allowed plan 0 more (entry q r) later no_key)
+          ap (λ b. option_map structure (cond b (read_layout g (by_run g (read terms.setting n)) [] (plain_layout d) (placed plan 0 (more ++ (entry q r ∷ later)))) None)) (not_allowed plan 0 more (entry q r) later no_key)
 
       -- into the value of a field
       inner_fails : (place : ℕ) (field : Field) → leads plan (ordered_count 0 more) q ≡ Some (place ∷ []) → slice_get d.fields place ≡ Some field → (rest : List Event)
@@ -112,7 +112,7 @@ module _ (terms : Terms) (n s : ℕ) (source : Source) (d : StructShape)
           → f ≡ fault (duplicate_field (key_text q) (taken_span p got.values)) (key_note q).span path → Why (front ++ (leaf (key q) ∷ rest))
       duplicate_fails rest got p (keeps, spanned, apart) lead taken is =
           let t = taken_there p got.values taken in
-          let o = origin_of (leaf_at g [] (plain_layout d)) (read terms.setting n) t.item (placed plan 0 more) got.values t.among.before t.among.after t.among.is keeps.2 spanned in
+          let o = origin_of (leaf_at g [] (plain_layout d)) (part_value g (read terms.setting n)) t.item (placed plan 0 more) got.values t.among.before t.among.after t.among.is keeps.2 spanned in
           let c = placed_came plan 0 o.item more o.among in
           duplicate_at (key_text q) t.item.item.span (key_note q).span path
           (is ∙ ap (λ z. fault (duplicate_field (key_text q) z) (key_note q).span path) t.span)
@@ -144,12 +144,12 @@ module _ (terms : Terms) (n s : ℕ) (source : Source) (d : StructShape)
 
         value_fails : (e : End) (p : Path) → leads plan got.count q ≡ Some p → leaf_at g [] (plain_layout d) p ≡ Some e → by_value terms n s d sound e p q got path input ≡ Err f → Here
         value_fails e p lead ends told =
-            elim (bind_err (reading terms n e.shape (source_of q) (path ++ steps_at g (plain_layout d) p) input) (got_value (after_key got.count q) got.values p q) f told) [
+            elim (bind_err (end_at (reading terms n) e.part q (path ++ steps_at g (plain_layout d) p) input) (got_value (after_key got.count q) got.values p q) f told) [
               | inl x ↦
                   let field = leaf_is g [] (plain_layout d) p e ends in
                   let inside : reading terms n field.field.shape (source_of q) (path ++ (field_step field.field.name ∷ [])) input ≡ Err f =
-                  ap (λ (z : End). reading terms n z.shape (source_of q) (path ++ (field_step field.field.name ∷ [])) input) (sym field.end)
-                  ∙ ap (λ z. reading terms n e.shape (source_of q) (path ++ z) input) (sym field.steps) ∙ x in
+                  ap (λ (z : End). end_at (reading terms n) z.part q (path ++ (field_step field.field.name ∷ [])) input) (sym field.end)
+                  ∙ ap (λ z. end_at (reading terms n) e.part q (path ++ z) input) (sym field.steps) ∙ x in
                   inner_fails field.place field.field (ap (λ z. leads plan z q) (sym holds.0.1) ∙ lead ∙ ap (λ z. Some z) field.path) field.here rest
                   (parts field.field.shape (source_of q) (path ++ (field_step field.field.name ∷ [])) rest ending (key_note q).span f inside)
               | inr z ↦ absurd (let no_fault = z.2 in cc)
@@ -185,7 +185,7 @@ module _ (terms : Terms) (n s : ℕ) (source : Source) (d : StructShape)
         named_fails false allowed told =
             key_fails terms n s source mean reads_entries object path last ending f k m more q rest (denied (ap (λ z. is_allowed plan z q) (sym holds.0.1) ∙ allowed)) (sym (err_is (fault unexpected_token (key_note q).span path) f told))
 
-    no_told : (xs : List (At Entry)) (ys : List (At Told)) (ends : Path → Option End) → Kept ends (by_run (read terms.setting n)) xs ys → ys ≡ [] → xs ≡ []
+    no_told : (xs : List (At Entry)) (ys : List (At Told)) (ends : Path → Option End) → Kept ends (by_run g (read terms.setting n)) xs ys → ys ≡ [] → xs ≡ []
     no_told [] ys ends kept none = refl
     no_told (x ∷ xs) [] ends kept none = absurd kept
     no_told (x ∷ xs) (y ∷ ys) ends kept none = absurd cc
@@ -209,7 +209,7 @@ module _ (terms : Terms) (n s : ℕ) (source : Source) (d : StructShape)
                 field = l.field;
                 here = l.here;
                 no_entry = no_told (below l.place (placed plan 0 more)) (below l.place got.values) (λ p. leaf_at g [] (plain_layout d) (l.place ∷ p))
-                    (kept_below (leaf_at g [] (plain_layout d)) (by_run (read terms.setting n)) l.place (placed plan 0 more) got.values keeps.2)
+                    (kept_below (leaf_at g [] (plain_layout d)) (by_run g (read terms.setting n)) l.place (placed plan 0 more) got.values keeps.2)
                     (ap (λ i. below i got.values) (omega arith) ∙ l.none_there);
                 no_fill = l.no_fill;
                 named = refl;
@@ -244,6 +244,6 @@ module _ (terms : Terms) (n s : ℕ) (source : Source) (d : StructShape)
       subst (λ l. Cause terms (part path) last l ending f) (sym cut) (first_unexpected terms n s path source last ending f e rest is alone (not_first e other))
   object_fails path last es ending f (inside k m l cut why) = subst (λ l. Cause terms (part path) last l ending f) (sym cut) (inside_fails path last k m l ending f why)
 
-  pub struct_fails : Fails terms (suc n) s source (struct_at g (reading terms n) [] d.deny (plain_layout d) s)
+  pub struct_fails : Fails terms (suc n) s source (struct_at g (end_at (reading terms n)) [] d.deny (plain_layout d) s)
   struct_fails path es ending last f told =
       object_fails path last es ending f (object_refused Got Tree mean takes Holding nothing_got begins (gathered g [] (plain_layout d) s) (holds_sound terms n s d sound) path es ending last f told)

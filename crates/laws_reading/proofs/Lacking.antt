@@ -11,9 +11,9 @@ use Rattle.semantics.specs.Faults.{field_step, missing_field, Fault}
 use Rattle.semantics.specs.Runs.{Entry}
 use Rattle.semantics.specs.Places.{Path, At, rest_at, below, is_end, has_whole, Choice}
 use Rattle.semantics.specs.Keys.{Layout}
-use Rattle.semantics.specs.Reading.{Reader, by_run, fill, in_parts}
+use Rattle.semantics.specs.Reading.{PartReader, parts_by, fill, in_parts}
 use Rattle.laws_reading.specs.Input.{◌>>=◌, fault_at}
-use Rattle.laws_reading.specs.Structs.{Told, End, one_of, leaf_end, leaf_found, leaf_flat, leaf_at, flat_steps, steps_found, steps_at, is_filled, Spot, or_missing, inner_spot, gather_own, gather_flat, gather_field, gather_fields, with_tree, is_taken}
+use Rattle.laws_reading.specs.Structs.{Told, End, one_shape, leaf_end, leaf_found, leaf_flat, leaf_at, flat_steps, steps_found, steps_at, is_filled, Spot, or_missing, inner_spot, gather_own, gather_flat, gather_field, gather_fields, with_tree, is_taken}
 use Rattle.laws.proofs.Built.{BuiltField}
 use Rattle.laws_reading.proofs.Errors.{bind_err, err_is}
 use Rattle.laws_reading.proofs.Ends.{Kept, placed_at}
@@ -33,18 +33,18 @@ spanned_more (a ∷ xs) [] x y h is = absurd h
 spanned_more (a ∷ xs) (b ∷ ys) x y (first, more) is = (first, spanned_more xs ys x y more is)
 
 -- what was read and stands in the list was placed there
-pub record Origin (ends : Path → Option End) (rd : Reader) (y : At Told) (xs : List (At Entry)) : Type 0 where
+pub record Origin (ends : Path → Option End) (rd : PartReader) (y : At Told) (xs : List (At Entry)) : Type 0 where
   pub item : At Entry
   pub among : Among item xs
   pub path : item.path ≡ y.path
   pub span : (key_note item.item.key).span ≡ y.item.span
 
-pub origin_of : (ends : Path → Option End) (rd : Reader) (y : At Told) (xs : List (At Entry)) (ys before after : List (At Told)) → ys ≡ before ++ (y ∷ after) → Kept ends (by_run rd) xs ys → Spanned xs ys → Origin ends rd y xs
+pub origin_of : (ends : Path → Option End) (rd : PartReader) (y : At Told) (xs : List (At Entry)) (ys before after : List (At Told)) → ys ≡ before ++ (y ∷ after) → Kept ends (parts_by rd) xs ys → Spanned xs ys → Origin ends rd y xs
 origin_of ends rd y [] [] [] after is h s = absurd cc
 origin_of ends rd y [] [] (z ∷ before) after is h s = absurd cc
 origin_of ends rd y [] (b ∷ ys) before after is h s = absurd h
 origin_of ends rd y (x ∷ xs) [] before after is h s = absurd h
-origin_of ends rd y (x ∷ xs) (b ∷ ys) [] after is ((e, end, reads, name, path), more) s =
+origin_of ends rd y (x ∷ xs) (b ∷ ys) [] after is ((e, end, reads, path), more) s =
     let same : b ≡ y = cc in
     record { item = x; among = record { before = []; after = xs; is = refl }; path = path ∙ ap (λ (z : At Told). z.path) same; span = s.0 ∙ ap (λ (z : At Told). z.item.span) same }
 origin_of ends rd y (x ∷ xs) (b ∷ ys) (z ∷ before) after is (first, more) s =
@@ -58,7 +58,7 @@ pub record IsField (g : Registry) (l : Layout) (p : Path) (s : End) : Type 0 whe
   pub field : Field
   pub path : p ≡ place ∷ []
   pub here : slice_get l.fields place ≡ Some field
-  pub end : s ≡ one_of field.shape
+  pub end : s ≡ one_shape field.shape
   pub steps : steps_at g l p ≡ field_step field.name ∷ []
 
 flat_none : (g : Registry) (whole : Bool) (n : ℕ) (d : Option Definition) (c : Choice) (p : Path) → leaf_flat g whole n d c p ≡ None
@@ -73,13 +73,13 @@ pub leaf_is : (g : Registry) (c : Choice) (l : Layout) (p : Path) (s : End) → 
 leaf_is g c l [] s e = absurd cc
 leaf_is g c l (k ∷ p) s e = by_field (slice_get l.fields k) refl e
   where
-    by_end : (f : Field) → slice_get l.fields k ≡ Some f → (p' : Path) → p ≡ p' → leaf_end (Some (one_of f.shape)) p' ≡ Some s → IsField g l (k ∷ p) s
+    by_end : (f : Field) → slice_get l.fields k ≡ Some f → (p' : Path) → p ≡ p' → leaf_end (Some (one_shape f.shape)) p' ≡ Some s → IsField g l (k ∷ p) s
     by_end f is [] at e = record {
       place = k;
       field = f;
       path = ap (λ q. k ∷ q) at;
       here = is;
-      end = (let same : one_of f.shape ≡ s = cc in sym same);
+      end = (let same : one_shape f.shape ≡ s = cc in sym same);
       steps = ap (λ q. steps_at g l (k ∷ q)) at ∙ ap (λ o. steps_found (flat_steps g (length g)) g o []) is ∙ ap (λ z. field_step f.name ∷ z) (flat_nowhere g (length g) (definition_at g f.shape) []);
     }
     by_end f is (j ∷ p') at e = absurd cc
@@ -88,7 +88,7 @@ leaf_is g c l (k ∷ p) s e = by_field (slice_get l.fields k) refl e
     by_field None is e = absurd cc
     by_field (Some f) is e = by_test (in_parts l.whole f (is_end p)) e
       where
-        by_test : (b : Bool) → cond b (leaf_flat g l.whole (length g) (definition_at g f.shape) (below k c) p) (leaf_end (Some (one_of f.shape)) p) ≡ Some s → IsField g l (k ∷ p) s
+        by_test : (b : Bool) → cond b (leaf_flat g l.whole (length g) (definition_at g f.shape) (below k c) p) (leaf_end (Some (one_shape f.shape)) p) ≡ Some s → IsField g l (k ∷ p) s
         by_test true e = let none = flat_none g l.whole (length g) (definition_at g f.shape) (below k c) p in absurd cc
         by_test false e = by_end f is p refl e
 

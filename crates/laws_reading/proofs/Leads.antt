@@ -5,7 +5,7 @@ use Rattle.semantics.specs.Shapes.{Field, Definition, Registry, definition_at}
 use Rattle.semantics.specs.Events.{Key, named, nameless, ordered}
 use Rattle.semantics.specs.Places.{Path, below, under, is_end, Choice}
 use Rattle.semantics.specs.Keys.{Declared, alias_key, own_keys, Layout, keys_by, flat_keys, keys, path_of, or_path, stray_by, flat_stray, plan_of, leads, is_allowed}
-use Rattle.laws_reading.specs.Structs.{End, one_of, leaf_end, FlatLeaf, leaf_flat, leaf_at}
+use Rattle.laws_reading.specs.Structs.{End, one_shape, leaf_end, FlatLeaf, leaf_flat, leaf_at}
 use Rattle.laws_reading.proofs.Ends.{Ends, Covers, covers_all}
 
 -- each declared key leads to a part
@@ -52,14 +52,14 @@ module _ (g : Registry) (whole : Bool) where
       (by_test f.flattened whole (covers 0 k f (omega arith) refl))
       (fields_lead inner leaf flat c ends (suc k) fs (λ j i h at is. covers (suc j) i h (omega (arith, at)) is))
     where
-      own : ends (k ∷ []) ≡ Some (one_of f.shape) → Leads ends (own_keys k f)
-      own same = ((one_of f.shape, same), leads_alias ends k (one_of f.shape) f.alias same)
+      own : ends (k ∷ []) ≡ Some (one_shape f.shape) → Leads ends (own_keys k f)
+      own same = ((one_shape f.shape, same), leads_alias ends k (one_shape f.shape) f.alias same)
 
-      by_test : (a m : Bool) → ((p : Path) → ends (k ∷ p) ≡ cond (a && not (m && is_end p)) (leaf (definition_at g f.shape) (below k c) p) (leaf_end (Some (one_of f.shape)) p)) → Leads ends (cond a (cond m (own_keys k f) [] ++ map (under k) (inner (definition_at g f.shape) (below k c))) (own_keys k f))
+      by_test : (a m : Bool) → ((p : Path) → ends (k ∷ p) ≡ cond (a && not (m && is_end p)) (leaf (definition_at g f.shape) (below k c) p) (leaf_end (Some (one_shape f.shape)) p)) → Leads ends (cond a (cond m (own_keys k f) [] ++ map (under k) (inner (definition_at g f.shape) (below k c))) (own_keys k f))
       by_test true true same =
           leads_both ends (own_keys k f) (map (under k) (inner (definition_at g f.shape) (below k c))) (own (same []))
           (leads_under ends (λ p. ends (k ∷ p)) k (λ p. refl) (inner (definition_at g f.shape) (below k c))
-          (leads_parts (leaf (definition_at g f.shape) (below k c)) (λ p. ends (k ∷ p)) (one_of f.shape) (same []) (λ j p. same (j ∷ p)) (inner (definition_at g f.shape) (below k c)) (flat (definition_at g f.shape) (below k c))))
+          (leads_parts (leaf (definition_at g f.shape) (below k c)) (λ p. ends (k ∷ p)) (one_shape f.shape) (same []) (λ j p. same (j ∷ p)) (inner (definition_at g f.shape) (below k c)) (flat (definition_at g f.shape) (below k c))))
       by_test true false same = leads_under ends (leaf (definition_at g f.shape) (below k c)) k same (inner (definition_at g f.shape) (below k c)) (flat (definition_at g f.shape) (below k c))
       by_test false m same = own (same [])
 
@@ -80,13 +80,13 @@ module _ (g : Registry) (whole : Bool) where
       Rest : Type 0
       Rest = stray_by g inner c (suc k) fs ≡ Some p → (s : End) × (ends p ≡ Some s)
 
-      by_end : (m : Bool) (q : Path) (s : End) → ((p : Path) → ends (k ∷ p) ≡ cond (not (m && is_end p)) (leaf (definition_at g f.shape) (below k c) p) (leaf_end (Some (one_of f.shape)) p))
+      by_end : (m : Bool) (q : Path) (s : End) → ((p : Path) → ends (k ∷ p) ≡ cond (not (m && is_end p)) (leaf (definition_at g f.shape) (below k c) p) (leaf_end (Some (one_shape f.shape)) p))
           → leaf (definition_at g f.shape) (below k c) q ≡ Some s → (s : End) × (ends (k ∷ q) ≡ Some s)
-      by_end true [] s same end = (one_of f.shape, same [])
+      by_end true [] s same end = (one_shape f.shape, same [])
       by_end true (j ∷ q) s same end = (s, same (j ∷ q) ∙ end)
       by_end false q s same end = (s, same q ∙ end)
 
-      by_inner : (m : Bool) (o : Option Path) → inner (definition_at g f.shape) (below k c) ≡ o → ((p : Path) → ends (k ∷ p) ≡ cond (not (m && is_end p)) (leaf (definition_at g f.shape) (below k c) p) (leaf_end (Some (one_of f.shape)) p))
+      by_inner : (m : Bool) (o : Option Path) → inner (definition_at g f.shape) (below k c) ≡ o → ((p : Path) → ends (k ∷ p) ≡ cond (not (m && is_end p)) (leaf (definition_at g f.shape) (below k c) p) (leaf_end (Some (one_shape f.shape)) p))
           → or_path (option_map (λ p. k ∷ p) o) (stray_by g inner c (suc k) fs) ≡ Some p → Rest → (s : End) × (ends p ≡ Some s)
       by_inner m None is same e rec = rec e
       by_inner m (Some q) is same e rec =
@@ -95,7 +95,7 @@ module _ (g : Registry) (whole : Bool) where
           let there : k ∷ q ≡ p = cc in
           (a, ap ends (sym there) ∙ end')
 
-      by_test : (b m : Bool) → ((p : Path) → ends (k ∷ p) ≡ cond (b && not (m && is_end p)) (leaf (definition_at g f.shape) (below k c) p) (leaf_end (Some (one_of f.shape)) p))
+      by_test : (b m : Bool) → ((p : Path) → ends (k ∷ p) ≡ cond (b && not (m && is_end p)) (leaf (definition_at g f.shape) (below k c) p) (leaf_end (Some (one_shape f.shape)) p))
           → or_path (cond b (option_map (λ p. k ∷ p) (inner (definition_at g f.shape) (below k c))) None) (stray_by g inner c (suc k) fs) ≡ Some p → Rest → (s : End) × (ends p ≡ Some s)
       by_test true m same e rec = by_inner m (inner (definition_at g f.shape) (below k c)) refl same e rec
       by_test false m same e rec = rec e

@@ -5,11 +5,11 @@ use Rattle.semantics.specs.Shapes.{Field, Definition, Registry, definition_at}
 use Rattle.semantics.specs.Places.{Path, At, below, is_end, has_whole, Choice}
 use Rattle.semantics.specs.Keys.{Layout}
 use Rattle.semantics.specs.Reading.{Parts, FlatReader, read_own, read_field, and_trees, read_fields, read_flat, read_layout}
-use Rattle.laws_reading.specs.Structs.{Told, End, one_of, leaf_end, FlatLeaf, leaf_field, leaf_found, leaf_in, leaf_flat, leaf_at, is_filled, is_taken}
+use Rattle.laws_reading.specs.Structs.{Told, End, one_shape, leaf_end, FlatLeaf, leaf_field, leaf_found, leaf_in, leaf_flat, leaf_at, is_filled, is_taken}
 use Rattle.laws_reading.proofs.Ends.{Kept, kept_below, whole_ends, kept_parts, placed_at, below_among, Lost}
 
 abbrev pub LostIn : {A : Type 0} → Parts A → End → A → Path → List (At A) → Type 0
-LostIn rd e r p xs = (rd.value_of e.shape r ≡ None) ⊎ ((not e.many && (has_whole xs || is_taken p xs)) ≡ true)
+LostIn rd e r p xs = (rd.value_of e.part r ≡ None) ⊎ ((not e.many && (has_whole xs || is_taken p xs)) ≡ true)
 
 -- nothing stands both for the whole and for a part
 abbrev pub IsApart : FlatLeaf → Type 0
@@ -28,7 +28,7 @@ module _ {A : Type 0} (g : Registry) (rd : Parts A) (whole : Bool) where
   abbrev pub FlatLost : FlatLeaf → FlatReader A → Type 0
   FlatLost leaf flat = (d : Option Definition) (c : Choice) (p : Path) (s : End) (r : A) → leaf d c p ≡ Some s → (xs ys : List (At A)) (zs : List (At Told)) → Kept (leaf d c) rd xs zs → Lost rd s r p xs → flat d c (xs ++ (placed_at p r ∷ ys)) ≡ None
 
-  own_lost : (f : Field) (r : A) (xs ys : List (At A)) → LostIn rd (one_of f.shape) r [] xs → read_own g rd f (xs ++ (placed_at [] r ∷ ys)) ≡ None
+  own_lost : (f : Field) (r : A) (xs ys : List (At A)) → LostIn rd (one_shape f.shape) r [] xs → read_own g rd f (xs ++ (placed_at [] r ∷ ys)) ≡ None
   own_lost f r [] [] (inl e) = e
   own_lost f r [] [] (inr e) = absurd cc
   own_lost f r [] (y ∷ ys) lost = refl
@@ -70,8 +70,8 @@ module _ {A : Type 0} (g : Registry) (rd : Parts A) (whole : Bool) where
       → LostIn rd s r p xs → read_field flat g rd whole c f (xs ++ (placed_at p r ∷ ys)) ≡ None
   field_lost leaf flat apart inner f c p s r e xs ys zs h lost = by_field f.flattened whole p e h lost
     where
-      own : (p : Path) → leaf_end (Some (one_of f.shape)) p ≡ Some s → LostIn rd s r p xs → read_own g rd f (xs ++ (placed_at p r ∷ ys)) ≡ None
-      own [] e lost = let same : s ≡ one_of f.shape = cc in own_lost f r xs ys (subst (λ z. LostIn rd z r [] xs) same lost)
+      own : (p : Path) → leaf_end (Some (one_shape f.shape)) p ≡ Some s → LostIn rd s r p xs → read_own g rd f (xs ++ (placed_at p r ∷ ys)) ≡ None
+      own [] e lost = let same : s ≡ one_shape f.shape = cc in own_lost f r xs ys (subst (λ z. LostIn rd z r [] xs) same lost)
       own (k ∷ p) e lost = absurd cc
 
       whole_taken : (p : Path) → Kept (leaf (definition_at g f.shape) c) rd xs zs → leaf (definition_at g f.shape) c p ≡ Some s → has_whole xs ≡ true → is_taken p xs ≡ true
@@ -81,14 +81,14 @@ module _ {A : Type 0} (g : Registry) (rd : Parts A) (whole : Bool) where
       parts : (p : Path) → Kept (leaf (definition_at g f.shape) c) rd xs zs → leaf (definition_at g f.shape) c p ≡ Some s → LostIn rd s r p xs → flat (definition_at g f.shape) c (xs ++ (placed_at p r ∷ ys)) ≡ None
       parts p h e lost = inner (definition_at g f.shape) c p s r e xs ys zs h (lost_within s r p xs (whole_taken p h e) lost)
 
-      by_whole : (k : ℕ) (p : Path) → leaf (definition_at g f.shape) c (k ∷ p) ≡ Some s → Kept (λ p. cond (not (is_end p)) (leaf (definition_at g f.shape) c p) (leaf_end (Some (one_of f.shape)) p)) rd xs zs → LostIn rd s r (k ∷ p) xs
+      by_whole : (k : ℕ) (p : Path) → leaf (definition_at g f.shape) c (k ∷ p) ≡ Some s → Kept (λ p. cond (not (is_end p)) (leaf (definition_at g f.shape) c p) (leaf_end (Some (one_shape f.shape)) p)) rd xs zs → LostIn rd s r (k ∷ p) xs
           → (b : Bool) → has_whole (xs ++ (placed_at (k ∷ p) r ∷ ys)) ≡ b → cond (not b) (flat (definition_at g f.shape) c (xs ++ (placed_at (k ∷ p) r ∷ ys))) (read_own g rd f (xs ++ (placed_at (k ∷ p) r ∷ ys))) ≡ None
       by_whole k p e h lost true is = two_read f k p r xs ys is
       by_whole k p e h lost false is =
-          parts (k ∷ p) (kept_parts (λ p. cond (not (is_end p)) (leaf (definition_at g f.shape) c p) (leaf_end (Some (one_of f.shape)) p)) (leaf (definition_at g f.shape) c) rd (λ k p. refl) xs zs (no_whole (k ∷ p) r xs ys is) h) e lost
+          parts (k ∷ p) (kept_parts (λ p. cond (not (is_end p)) (leaf (definition_at g f.shape) c p) (leaf_end (Some (one_shape f.shape)) p)) (leaf (definition_at g f.shape) c) rd (λ k p. refl) xs zs (no_whole (k ∷ p) r xs ys is) h) e lost
 
-      by_field : (a m : Bool) (p : Path) → cond (a && not (m && is_end p)) (leaf (definition_at g f.shape) c p) (leaf_end (Some (one_of f.shape)) p) ≡ Some s
-          → Kept (λ p. cond (a && not (m && is_end p)) (leaf (definition_at g f.shape) c p) (leaf_end (Some (one_of f.shape)) p)) rd xs zs → LostIn rd s r p xs
+      by_field : (a m : Bool) (p : Path) → cond (a && not (m && is_end p)) (leaf (definition_at g f.shape) c p) (leaf_end (Some (one_shape f.shape)) p) ≡ Some s
+          → Kept (λ p. cond (a && not (m && is_end p)) (leaf (definition_at g f.shape) c p) (leaf_end (Some (one_shape f.shape)) p)) rd xs zs → LostIn rd s r p xs
           → cond (a && not (m && has_whole (xs ++ (placed_at p r ∷ ys)))) (flat (definition_at g f.shape) c (xs ++ (placed_at p r ∷ ys))) (read_own g rd f (xs ++ (placed_at p r ∷ ys))) ≡ None
       by_field false m p e h lost = own p e lost
       by_field true false p e h lost = parts p h e lost

@@ -3,9 +3,9 @@ use Rattle.std.proofs.Common.{ℕ, zero, suc, [], Option, Some, None, Bool, true
 use Rattle.semantics.specs.Shapes.{is_tuple, StructShape, Definition, scalar_shape, option_shape, result_shape, list_shape, array_shape, set_shape, map_shape, struct_shape, enum_shape, transparent_shape, definition_at}
 use Rattle.semantics.specs.Runs.{Run}
 use Rattle.semantics.specs.Trees.{Tree}
-use Rattle.semantics.specs.Reading.{Source, from_events, Reader, read_object, read_struct, plain_layout, read_tuple, read_as, read_shape, read}
+use Rattle.semantics.specs.Reading.{Source, from_events, Reader, part_value, read_object, read_struct, plain_layout, read_tuple, read_as, read_shape, read}
 use Rattle.laws_reading.specs.Input.{refused_at}
-use Rattle.laws_reading.specs.Structs.{ReadsPart}
+use Rattle.laws_reading.specs.Structs.{ReadsPart, end_at}
 use Rattle.laws_reading.specs.Values.{Terms, target_of, struct_as, value_as, value_at, reading}
 use Rattle.laws_reading.specs.Laws.{Sound, Complete, Refuses}
 use Rattle.laws_reading.proofs.Steps.{refuses, refused_sound}
@@ -14,7 +14,7 @@ use Rattle.laws_reading.proofs.Options.{option_sound, option_complete}
 use Rattle.laws_reading.proofs.Results.{result_sound, result_complete}
 use Rattle.laws_reading.proofs.Sequences.{sequence_sound, sequence_complete}
 use Rattle.laws_reading.proofs.Tuples.{tuple_sound, tuple_complete}
-use Rattle.laws_reading.proofs.Structs.{struct_sound, struct_complete}
+use Rattle.laws_reading.proofs.Structs.{ends_sound, ends_complete, struct_sound, struct_complete}
 
 module _ (terms : Terms) (rd : Reader) (at : ReadsPart) (s : ℕ) (source : Source) where
   -- a struct is read as a tuple, or as an object
@@ -31,7 +31,7 @@ module _ (terms : Terms) (rd : Reader) (at : ReadsPart) (s : ℕ) (source : Sour
     where
       by_kind : (b : Bool) → Sound (WhichStruct d b) (struct_as terms at s d b)
       by_kind true = tuple_sound terms.setting.registry rd at d s sound
-      by_kind false = struct_sound terms.setting.registry rd at [] d.deny (plain_layout d) s sound
+      by_kind false = struct_sound terms.setting.registry (part_value terms.setting.registry rd) (end_at at) [] d.deny (plain_layout d) s (ends_sound terms.setting.registry rd at sound)
   step_sound sound (transparent_shape i) = sound i source
   step_sound sound (set_shape i) = refused_sound (λ r. None)
   step_sound sound (map_shape i j) = refused_sound (λ r. None)
@@ -50,7 +50,7 @@ module _ (terms : Terms) (rd : Reader) (at : ReadsPart) (s : ℕ) (source : Sour
     where
       by_kind : (b : Bool) → Complete (WhichStruct d b) (struct_as terms at s d b)
       by_kind true = tuple_complete terms.setting.registry rd at d s complete
-      by_kind false = struct_complete terms.setting.registry rd at [] d.deny (plain_layout d) s complete
+      by_kind false = struct_complete terms.setting.registry (part_value terms.setting.registry rd) (end_at at) [] d.deny (plain_layout d) s (ends_complete terms.setting.registry rd at complete)
   step_complete complete (transparent_shape i) = complete i source
   step_complete complete (set_shape i) = none_complete
   step_complete complete (map_shape i j) = none_complete

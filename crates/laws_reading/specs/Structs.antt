@@ -6,7 +6,7 @@ use Rattle.semantics.specs.Events.{Span, Key, key_note}
 use Rattle.semantics.specs.Faults.{Step, field_step, missing_field, duplicate_field, Fault}
 use Rattle.semantics.specs.Places.{Path, At, below, is_end, has_whole, Choice}
 use Rattle.semantics.specs.Keys.{Layout, Plan, plan_of, leads, after_key, is_allowed}
-use Rattle.semantics.specs.Reading.{Source, Parts, key_text, source_of, fill, in_parts}
+use Rattle.semantics.specs.Reading.{Source, Part, of_shape, of_variant, of_tag, of_entry, Parts, key_text, source_of, fill, in_parts}
 use Rattle.laws_reading.specs.Input.{Input, ◌>>=◌, Reads, refused, unexpected, never}
 use Rattle.laws_reading.specs.Objects.{Takes, Finish, object_at}
 use Rattle.laws_reading.specs.Skips.{Opened, skip_at}
@@ -15,9 +15,19 @@ use Rattle.laws_reading.specs.Skips.{Opened, skip_at}
 abbrev pub ReadsPart : Type 0
 ReadsPart = ℕ → Source → Reads Tree
 
--- what was read, with the text of its key, and where the key stood
+-- reads what stands at the end of a path, behind its key
+abbrev pub ReadsEnd : Type 0
+ReadsEnd = Part → Key → Reads Tree
+
+-- A value of a shape has the source of its key. Nothing else stands at the end of a path yet.
+abbrev pub end_at : ReadsPart → ReadsEnd
+end_at read (of_shape s) q path input = read s (source_of q) path input
+end_at read (of_variant j v) q path input = never path input
+end_at read (of_tag t) q path input = never path input
+end_at read (of_entry s t) q path input = never path input
+
+-- what was read, and where its key stood
 pub record Told : Type 0 where
-  pub name : List ℕ
   pub span : Span
   pub value : Tree
 
@@ -29,13 +39,18 @@ pub record Got : Type 0 where
 abbrev pub nothing_got : Got
 nothing_got = record { count = 0; values = [] }
 
--- what stands at the end of a path: of which shape, and whether any number of them may
+-- what stands at the end of a path, and whether any number of them may
 pub record End : Type 0 where
-  pub shape : ℕ
+  pub part : Part
   pub many : Bool
 
-abbrev pub one_of : ℕ → End
-one_of s = record { shape = s; many = false }
+-- one thing
+abbrev pub one_of : Part → End
+one_of p = record { part = p; many = false }
+
+-- one value of a shape
+abbrev pub one_shape : ℕ → End
+one_shape s = one_of (of_shape s)
 
 abbrev pub leaf_end : Option End → Path → Option End
 leaf_end o [] = o
@@ -46,7 +61,7 @@ abbrev pub FlatLeaf : Type 0
 FlatLeaf = Option Definition → Choice → Path → Option End
 
 abbrev pub leaf_field : FlatLeaf → Registry → Bool → Choice → Field → Path → Option End
-leaf_field inner g whole c f p = cond (in_parts whole f (is_end p)) (inner (definition_at g f.shape) c p) (leaf_end (Some (one_of f.shape)) p)
+leaf_field inner g whole c f p = cond (in_parts whole f (is_end p)) (inner (definition_at g f.shape) c p) (leaf_end (Some (one_shape f.shape)) p)
 
 abbrev pub leaf_found : FlatLeaf → Registry → Bool → Choice → Option Field → Path → Option End
 leaf_found inner g whole c None p = None
@@ -113,34 +128,34 @@ taken_span [] xs = first_span xs
 taken_span (k ∷ p) xs = or_span (whole_span (below k xs)) (taken_span p (below k xs))
 
 abbrev pub told_at : Path → Key → Tree → At Told
-told_at p q v = record { path = p; item = record { name = key_text q; span = (key_note q).span; value = v } }
+told_at p q v = record { path = p; item = record { span = (key_note q).span; value = v } }
 
 abbrev pub got_value : ℕ → List (At Told) → Path → Key → Tree × Input → Result (Got × Input) Fault
 got_value n got p q v = Ok (record { count = n; values = got ++ (told_at p q v.0 ∷ []) }, v.1)
 
-abbrev pub at_end_of : Option End → List Step → ReadsPart → Path → Key → ℕ → List (At Told) → Reads Got
+abbrev pub at_end_of : Option End → List Step → ReadsEnd → Path → Key → ℕ → List (At Told) → Reads Got
 at_end_of None steps read p q n got path input = never path input
 at_end_of (Some e) steps read p q n got path input =
     cond (not e.many && is_taken p got)
     (refused (duplicate_field (key_text q) (taken_span p got)) path input)
-    (read e.shape (source_of q) (path ++ steps) input >>= got_value n got p q)
+    (read e.part q (path ++ steps) input >>= got_value n got p q)
 
 abbrev pub passed_over : ℕ → List (At Told) → Opened × Input → Result (Got × Input) Fault
 passed_over n got x = Ok (record { count = n; values = got }, x.1)
 
 -- the value behind a key that leads there, or nowhere
-abbrev pub at_path : (Path → Option End) → (Path → List Step) → Option Path → ReadsPart → Key → ℕ → List (At Told) → Reads Got
+abbrev pub at_path : (Path → Option End) → (Path → List Step) → Option Path → ReadsEnd → Key → ℕ → List (At Told) → Reads Got
 at_path ends steps None read q n got path input = skip_at path input >>= passed_over n got
 at_path ends steps (Some p) read q n got path input = at_end_of (ends p) (steps p) read p q n got path input
 
 -- a key, and the value behind it
-abbrev pub field_at : (Path → Option End) → (Path → List Step) → Plan → ReadsPart → Takes Got
+abbrev pub field_at : (Path → Option End) → (Path → List Step) → Plan → ReadsEnd → Takes Got
 field_at ends steps plan read q s path input =
     cond (is_allowed plan s.count q) (at_path ends steps (leads plan s.count q) read q (after_key s.count q) s.values path input) (unexpected path input)
 
 -- what was read stands for itself
 abbrev pub kept : Parts Told
-kept = record { value_of = λ s y. Some y.value; name_of = λ y. y.name }
+kept = record { value_of = λ p y. Some y.value }
 
 -- a struct by its shape's number, at its path, and its end
 pub record Spot : Type 0 where
@@ -193,5 +208,5 @@ abbrev pub gathered : Registry → Choice → Layout → ℕ → Finish Got Tree
 gathered g c l shape s path input = gathered_trees g c l shape s path input >>= as_structure
 
 -- a struct of this shape, under a choice of variants
-abbrev pub struct_at : Registry → ReadsPart → Choice → Bool → Layout → ℕ → Reads Tree
+abbrev pub struct_at : Registry → ReadsEnd → Choice → Bool → Layout → ℕ → Reads Tree
 struct_at g read c deny l shape = object_at (field_at (leaf_at g c l) (steps_at g l) (plan_of g c deny l) read) nothing_got (gathered g c l shape)

@@ -5,7 +5,7 @@ use Rattle.semantics.specs.Shapes.{ScalarType, is_tuple, StructShape, Definition
 use Rattle.semantics.specs.Faults.{too_deep}
 use Rattle.semantics.specs.Reading.{Setting, Source, from_events, plain_layout}
 use Rattle.laws_reading.specs.Input.{Reads, refused, refused_at}
-use Rattle.laws_reading.specs.Structs.{ReadsPart, struct_at}
+use Rattle.laws_reading.specs.Structs.{ReadsPart, end_at, struct_at}
 use Rattle.laws_reading.specs.Nodes.{Target, scalar_at}
 use Rattle.laws_reading.specs.Options.{option_at, result_at}
 use Rattle.laws_reading.specs.Sequences.{sequence_at}
@@ -22,7 +22,7 @@ target_of terms s t = record { borrow = terms.setting.borrow; shape = s; type = 
 -- a struct: a tuple, or an object
 abbrev pub struct_as : Terms → ReadsPart → ℕ → StructShape → Bool → Reads Tree
 struct_as terms read s d true path input = tuple_at terms.setting.registry (record { shape = s; fields = d.fields }) read path input
-struct_as terms read s d false path input = struct_at terms.setting.registry read [] d.deny (plain_layout d) s path input
+struct_as terms read s d false path input = struct_at terms.setting.registry (end_at read) [] d.deny (plain_layout d) s path input
 
 -- One step of reading, where the parts are read so. Sets, maps and enums aren't built yet.
 abbrev pub value_as : Terms → ReadsPart → ℕ → Source → Definition → Reads Tree

@@ -8,7 +8,7 @@ use Rattle.semantics.specs.Keys.{leads}
 use Rattle.semantics.specs.Registry.{IsRegistry}
 use Rattle.semantics.specs.Reading.{source_of}
 use Rattle.laws_reading.specs.Input.{refused, unexpected}
-use Rattle.laws_reading.specs.Structs.{one_of, taken_span}
+use Rattle.laws_reading.specs.Structs.{one_shape, taken_span}
 use Rattle.laws_reading.specs.Values.{Terms}
 use Rattle.laws_machine.specs.Frames.{object, field, Frames, path}
 use Rattle.laws_machine.specs.Frames as machine
@@ -45,12 +45,12 @@ module _ (t : Terms) (p : StructPart) (fs : Frames) (x : Phrase) (m : Option Met
   by_span k f (Some first) = refl
   by_span k f None = await_source t (field s (entered (k ∷ []) q) ∷ fs) n.span s.depth f.shape (source_of q)
 
-  by_field : (k : ℕ) (f : Field) → end_step (Some (one_of f.shape)) t s (k ∷ []) q fs ≡ place_step (Some f) t s (entered (k ∷ []) q) fs
+  by_field : (k : ℕ) (f : Field) → end_step (Some (one_shape f.shape)) t s (k ∷ []) q fs ≡ place_step (Some f) t s (entered (k ∷ []) q) fs
   by_field k f =
       ap (λ b. cond b (refused (duplicate_field x.bytes (taken_span (k ∷ []) s.got.values)) (path t fs) (here n.span)) (await t s.depth f.shape (source_of q) (field s (entered (k ∷ []) q) ∷ fs) n.span)) (taken_some (k ∷ []) s.got.values)
       ∙ by_span k f (taken_span (k ∷ []) s.got.values)
 
-  by_place : (o : Option ℕ) → place_in fields x.bytes ≡ o → lead_step (option_map alone o) t s q fs ≡ found_step o t s x.bytes fs n.span
+  by_place : (o : Option ℕ) → place_in fields x.bytes ≡ o → lead_step (option_map alone o) t s q fs ≡ found_step o t s x fs n.span
   by_place None is = refl
   by_place (Some k) is =
       let (j, f, at, there, called) = place_called x.bytes fields 0 k is in
@@ -61,7 +61,7 @@ module _ (t : Terms) (p : StructPart) (fs : Frames) (x : Phrase) (m : Option Met
       ∙ ap (λ o. place_step o t s (entered (k ∷ []) q) fs) (sym found)
 
   -- a key with a name
-  named_is : IsRegistry t.setting.registry → field_step t s fs q ≡ found_step (place_in fields x.bytes) t s x.bytes fs n.span
+  named_is : IsRegistry t.setting.registry → field_step t s fs q ≡ found_step (place_in fields x.bytes) t s x fs n.span
   named_is checked =
       ap (λ b. cond b (lead_step (leads (plan_in t s) 0 q) t s q fs) (unexpected (path t fs) (here n.span))) (allowed (is_some (leads (plan_in t s) 0 q)) s.deny (none_denies t.setting.registry checked p.shape.0))
       ∙ ap (λ o. lead_step o t s q fs) (leads_place t.setting.registry fields x.bytes)

@@ -5,7 +5,7 @@ use Rattle.semantics.specs.Shapes.{Field, effective_name, Registry, definition_a
 use Rattle.semantics.specs.Events.{Span}
 use Rattle.semantics.specs.Places.{Path, At, below, under, is_end, has_whole, Choice}
 use Rattle.semantics.specs.Keys.{Layout, Declared, own_keys, alias_key, keys_by, flat_keys, keys, path_of, or_path, stray_by, flat_stray}
-use Rattle.laws_reading.specs.Structs.{Told, one_of, leaf_at, is_filled, is_taken, first_span, whole_span, or_span, taken_span}
+use Rattle.laws_reading.specs.Structs.{Told, one_shape, leaf_at, is_filled, is_taken, first_span, whole_span, or_span, taken_span}
 use Rattle.read_steps.specs.Keys.{is_text, is_called, place_in}
 
 -- what is taken has a key
@@ -112,5 +112,5 @@ module _ (g : Registry) (fs : List Field) where
       or_none (Some p) = refl
 
   -- where the path to a field at this place ends
-  pub own_end : (k : ℕ) (f : Field) → slice_get fs k ≡ Some f → f.flattened ≡ false → leaf_at g [] own (k ∷ []) ≡ Some (one_of f.shape)
+  pub own_end : (k : ℕ) (f : Field) → slice_get fs k ≡ Some f → f.flattened ≡ false → leaf_at g [] own (k ∷ []) ≡ Some (one_shape f.shape)
   own_end k f is flat = rw (is, flat) refl

@@ -1,9 +1,9 @@
 -- What an event is to those who look for another one.
-use Rattle.std.specs.Prelude.{ℕ, List, Option, Some, None, Result, Ok, Err, Bool, true, false, ◌&&◌, cond, bytes_eq, codes}
+use Rattle.std.specs.Prelude.{Option, Some, None, Result, Ok, Err, Bool, true, false, ◌&&◌, cond, bytes_eq, codes}
 use Rattle.semantics.specs.Texts.{Phrase}
 use Rattle.semantics.specs.Events.{Scalar, named, nameless, scalar, key, of_struct, of_sequence, object_kind, Event, leaf, start, stop}
 use Rattle.semantics.specs.Reading.{is_nothing}
-use Rattle.shape_core.specs.Texts.{text_bytes}
+use Rattle.shape_core.specs.Texts.{phrase_of}
 use Rattle.event_core.specs.Events.{scalar_of as scalar_view}
 use Rattle.read_steps.specs.declared.fits.TupleForm.{TupleForm as DeclaredForm}
 use Rattle.read_steps.specs.declared.fits.TupleForm.TheVariants as forms
@@ -81,19 +81,19 @@ begun_view (begun.Other u) = as_other
 -- what an event is, where an entry may begin: the end, a key with or without a name, or anything else
 pub data Mark : Type 0 where
   at_end : Mark
-  at_name : List ℕ → Mark
+  at_name : Phrase → Mark
   at_nameless : Mark
   elsewhere : Mark
 
 abbrev pub mark_of : Event → Mark
-mark_of (leaf (key (named t m n))) = at_name t.bytes
+mark_of (leaf (key (named t m n))) = at_name t
 mark_of (leaf (key (nameless m n))) = at_nameless
 mark_of (stop of_struct n) = at_end
 mark_of _ = elsewhere
 
 abbrev pub mark_view : DeclaredMark → Mark
 mark_view mark.End = at_end
-mark_view (mark.Name t) = at_name (text_bytes t)
+mark_view (mark.Name t) = at_name (phrase_of t)
 mark_view mark.Nameless = at_nameless
 mark_view (mark.Elsewhere u) = elsewhere
 

@@ -1,5 +1,6 @@
 -- The steps of the machine by what an event is, as the code takes them.
 use Rattle.std.specs.Prelude.{◌≡◌, ℕ, List, [], ◌∷◌, length, slice_get, Option, Some, None, Result, Ok, Err, Bool, true, false, cond, codes, bytes_eq}
+use Rattle.semantics.specs.Texts.{Phrase}
 use Rattle.semantics.specs.Trees.{Tree, structure, trees_of}
 use Rattle.semantics.specs.Shapes.{Field}
 use Rattle.semantics.specs.Events.{Span}
@@ -54,7 +55,7 @@ keyed_by (Some false) t l fs span = tuple_step t l fs span
 
 -- the key of a field, unless the field was read already
 abbrev pub fresh_step : Option Span → Field → Terms → StructPart → Entered → Frames → Steps
-fresh_step (Some first) f t s e fs = refused (duplicate_field e.name (Some first)) (path t fs) (here e.span)
+fresh_step (Some first) f t s e fs = refused (duplicate_field e.name.bytes (Some first)) (path t fs) (here e.span)
 fresh_step None f t s e fs = await t s.depth f.shape from_events (field s e ∷ fs) e.span
 
 abbrev pub place_step : Option Field → Terms → StructPart → Entered → Frames → Steps
@@ -62,14 +63,14 @@ place_step None t s e fs = never (path t fs) (here e.span)
 place_step (Some f) t s e fs = fresh_step (taken_span e.path s.got.values) f t s e fs
 
 -- a key of a struct that names the field at this place, or none
-abbrev pub found_step : Option ℕ → Terms → StructPart → List ℕ → Frames → Span → Steps
+abbrev pub found_step : Option ℕ → Terms → StructPart → Phrase → Frames → Span → Steps
 found_step None t s name fs span = Ok (going (passing [] ∷ object s ∷ fs))
 found_step (Some k) t s name fs span = place_step (slice_get s.layout.fields k) t s (record { path = k ∷ []; name = name; span = span }) fs
 
 -- an entry of a struct, or its end
 abbrev pub marked_step : Mark → Terms → StructPart → Frames → Span → Steps
 marked_step at_end t s fs span = struct_end t s fs span >>= deliver fs
-marked_step (at_name name) t s fs span = found_step (place_in s.layout.fields name) t s name fs span
+marked_step (at_name name) t s fs span = found_step (place_in s.layout.fields name.bytes) t s name fs span
 marked_step at_nameless t s fs span = Ok (going (passing [] ∷ object s ∷ fs))
 marked_step elsewhere t s fs span = unexpected (path t fs) (here span)
 
@@ -90,7 +91,7 @@ named_entry name t p fs span = cond (bytes_eq name (codes "_arg")) (argument_by 
 -- an entry of a node, or its end
 abbrev pub node_marked : Mark → Terms → NodePart → Frames → Span → Steps
 node_marked at_end t p fs span = node_ended p.node.value t fs span
-node_marked (at_name name) t p fs span = named_entry name t p fs span
+node_marked (at_name name) t p fs span = named_entry name.bytes t p fs span
 node_marked at_nameless t p fs span = Ok (going (passing [] ∷ node p ∷ fs))
 node_marked elsewhere t p fs span = unexpected (path t fs) (here span)
 

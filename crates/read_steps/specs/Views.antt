@@ -2,7 +2,7 @@
 use Rattle.std.specs.Prelude.{ℕ, false, List, [], ◌∷◌, map, reverse, option_map}
 use Rattle.semantics.specs.Places.{At}
 use Rattle.shape_core.specs.Scalars.{scalar_type_of}
-use Rattle.shape_core.specs.Texts.{text_bytes}
+use Rattle.shape_core.specs.Texts.{phrase_of}
 use Rattle.shape_core.specs.Trees.{tree_of}
 use Rattle.event_core.specs.Metadata.{span_view}
 use Rattle.laws_reading.specs.Structs.{Told, Got, nothing_got}
@@ -39,7 +39,7 @@ tuple_of t p = record { elements = record { shape = p.shape.0; fields = fields_a
 
 -- a key whose value comes
 abbrev pub entered_of : Named → machine.Entered
-entered_of k = record { path = k.place ∷ []; name = text_bytes k.name; span = span_view k.span }
+entered_of k = record { path = k.place ∷ []; name = phrase_of k.name; span = span_view k.span }
 
 -- a field that was read
 abbrev pub told_of : Filled → At Told

@@ -2,7 +2,7 @@
 ghost use Rattle.std.specs.Prelude.{◌≡◌, ◌∷◌, [], Some, Ok, slice_get, IfErr};
 ghost use Rattle.semantics.specs.Faults.{duplicate_field};
 ghost use Rattle.shape_core.specs.Shapes.{field_of, registry};
-ghost use Rattle.shape_core.specs.Texts.{text_bytes};
+ghost use Rattle.shape_core.specs.Texts.{text_bytes, phrase_of};
 ghost use Rattle.event_core.specs.Events.{event_of};
 ghost use Rattle.event_core.specs.Metadata.{span_view};
 ghost use Rattle.laws_machine.specs.Delivery.{going};
@@ -91,7 +91,7 @@ fn step_name<'de>(
     name: Text<'de>,
     span: Span,
 ) -> Result<Moved<'de>, ReadStop<'de>>
-    ensures exact { Gives told_stop (λ m. moved_of m (open_of (terms_of task.now) stack.new.items)) result (found_step (place_in (fields_at (registry task.now.shapes.now) part.entry.shape.0) (text_bytes name.entry)) (terms_of task.now) (struct_of (terms_of task.now) part.entry) (text_bytes name.entry) (open_of (terms_of task.now) stack.old.items) (span_view span)) }
+    ensures exact { Gives told_stop (λ m. moved_of m (open_of (terms_of task.now) stack.new.items)) result (found_step (place_in (fields_at (registry task.now.shapes.now) part.entry.shape.0) (text_bytes name.entry)) (terms_of task.now) (struct_of (terms_of task.now) part.entry) (phrase_of name.entry) (open_of (terms_of task.now) stack.old.items) (span_view span)) }
     ensures own { IfErr result (λ e. IsOwn (told_stop e)) }
 {
     match place_of(task.shapes, part.shape, name.as_str()) {

@@ -1,8 +1,9 @@
 -- What a run is read as.
 use Rattle.std.specs.Prelude.{◌≡◌, ℕ, zero, suc, List, [], ◌∷◌, Bool, true, false, cond, ◌&&◌, not, length, map, Option, Some, None, option_map, option_and_then, Ok, Err, bytes_eq, codes}
 use Rattle.std.specs.List.{list_all}
+use Rattle.semantics.specs.Texts.{Phrase}
 use Rattle.semantics.specs.Trees.{Tree, none, some, ok, err, list, structure, Trees, no_trees, tree}
-use Rattle.semantics.specs.Shapes.{ScalarType, is_tuple, Field, StructShape, Definition, scalar_shape, option_shape, result_shape, list_shape, array_shape, struct_shape, transparent_shape, Registry, definition_at}
+use Rattle.semantics.specs.Shapes.{ScalarType, is_tuple, Field, StructShape, Variant, Definition, scalar_shape, option_shape, result_shape, list_shape, array_shape, struct_shape, transparent_shape, Registry, definition_at}
 use Rattle.semantics.specs.Events.{Metadata, Scalar, unit, null, Key, named, nameless, ordered, of_struct, of_sequence, object_kind, array_kind, Event}
 use Rattle.semantics.specs.Runs.{Run, one, group, tagged, Entry, entries, items, run_events}
 use Rattle.semantics.specs.Registry.{has_some}
@@ -29,16 +30,30 @@ pub data Source : Type 0 where
 abbrev pub Reader : Type 0
 Reader = ℕ → Source → Run → Option Tree
 
--- How the things that stand at paths are read: as a value of a shape, and by the text of their key.
-pub record Parts (A : Type 0) : Type 0 where
-  pub value_of : ℕ → A → Option Tree
-  pub name_of : A → List ℕ
+-- What stands at the end of a path.
+pub data Part : Type 0 where
+  -- a value of a shape
+  of_shape : ℕ → Part
+  -- what stands under the name of a flattened enum's variant, which has this place
+  of_variant : ℕ → Variant → Part
+  -- the text of a flattened enum's tag
+  of_tag : List ℕ → Part
+  -- an entry of a flattened map, whose keys and values are of these shapes
+  of_entry : ℕ → ℕ → Part
 
--- the text of a key, and none where it has no name
+-- how the things that stand at the ends of paths are read
+pub record Parts (A : Type 0) : Type 0 where
+  pub value_of : Part → A → Option Tree
+
+-- the text of a key, with whether it is borrowed, and none where it has no name
+abbrev pub key_phrase : Key → Phrase
+key_phrase (named t m n) = t
+key_phrase (nameless m n) = record { bytes = []; borrowed = false }
+key_phrase (ordered n) = record { bytes = []; borrowed = false }
+
+-- its bytes
 abbrev pub key_text : Key → List ℕ
-key_text (named t m n) = t.bytes
-key_text (nameless m n) = []
-key_text (ordered n) = []
+key_text q = (key_phrase q).bytes
 
 -- a field's value has the metadata of its key, where the key has some
 abbrev pub key_source : Option Metadata → Source
@@ -51,9 +66,24 @@ source_of (named t m n) = key_source m
 source_of (nameless m n) = given m
 source_of (ordered n) = from_events
 
+-- reads what stands at the end of a path, by its key and its run
+abbrev pub PartReader : Type 0
+PartReader = Part → Key → Run → Option Tree
+
+-- A value of a shape has the source of its key. Nothing else stands at the end of a path yet.
+abbrev pub part_value : Registry → Reader → PartReader
+part_value g rd (of_shape s) q r = rd s (source_of q) r
+part_value g rd (of_variant j v) q r = None
+part_value g rd (of_tag t) q r = None
+part_value g rd (of_entry s t) q r = None
+
+-- entries, whose runs are read so
+abbrev pub parts_by : PartReader → Parts Entry
+parts_by read = record { value_of = λ p e. read p e.key e.run }
+
 -- by the runs of entries
-abbrev pub by_run : Reader → Parts Entry
-by_run rd = record { value_of = λ s e. rd s (source_of e.key) e.run; name_of = λ e. key_text e.key }
+abbrev pub by_run : Registry → Reader → Parts Entry
+by_run g rd = parts_by (part_value g rd)
 
 -- the first value that is there
 abbrev pub or_value : Option Tree → Option Tree → Option Tree
@@ -72,7 +102,7 @@ fill g f = or_value f.default (absent (definition_at g f.shape))
 -- a field has at most one entry
 abbrev pub read_own : {A : Type 0} → Registry → Parts A → Field → List (At A) → Option Tree
 read_own g rd f [] = fill g f
-read_own g rd f (x ∷ []) = rd.value_of f.shape x.item
+read_own g rd f (x ∷ []) = rd.value_of (of_shape f.shape) x.item
 read_own g rd f (x ∷ y ∷ xs) = None
 
 -- reads a flattened shape of what leads into it
@@ -112,7 +142,7 @@ read_entries g rd c deny l es = cond (are_allowed (plan_of g c deny l) 0 es) (re
 
 -- the entries of a struct
 abbrev pub read_struct : Registry → Reader → Choice → Bool → Layout → List Entry → Option Tree
-read_struct g rd c deny l es = option_map structure (read_entries g (by_run rd) c deny l es)
+read_struct g rd c deny l es = option_map structure (read_entries g (by_run g rd) c deny l es)
 
 -- an object, whose entries are read so
 abbrev pub read_object : {A : Type 0} → (List Entry → Option A) → Run → Option A
