@@ -13,7 +13,8 @@ use Rattle.semantics.specs.Reading.{Source, from_events, Part, of_shape, of_vari
 use Rattle.semantics.specs.Causes.{is_nothing_event, ends_sequence, has_room}
 use Rattle.laws_reading.specs.Input.{Input, ◌>>=◌, refused, unexpected, never}
 use Rattle.laws_reading.specs.Skips.{Opened, same_bracket, stopped, skip_of}
-use Rattle.laws_reading.specs.Structs.{Told, End, leaf_at, is_taken, taken_span, Spot, gather_own, gather_field, gather_fields, gather_flat, inner_spot, with_tree, as_structure}
+use Rattle.semantics.specs.Ends.{End, leaf_at}
+use Rattle.laws_reading.specs.Structs.{Told, is_taken, taken_span, Spot, gather_own, gather_field, gather_fields, gather_flat, inner_spot, with_tree, as_structure}
 use Rattle.laws_reading.specs.Structs as structs
 use Rattle.laws_reading.specs.Nodes.{Target, or_refused, or_unexpected}
 use Rattle.laws_reading.specs.Options.{side_of, side_in, outcome}
@@ -189,7 +190,7 @@ at_struct_key t s fs q = by_allowed (is_allowed (plan_in t s) s.got.count q)
   where
     by_lead : (o : Option Path) → At (key_note q).span (lead_step o t s q fs)
     by_lead None = at_ok _ _
-    by_lead (Some p) = at_end t (leaf_at t.setting.registry [] s.layout p) (past_key s q) p q fs
+    by_lead (Some p) = at_end t (leaf_at t.setting.registry s.choice s.layout p) (past_key s q) p q fs
 
     by_allowed : (b : Bool) → At (key_note q).span (cond b (lead_step (leads (plan_in t s) s.got.count q) t s q fs) (unexpected (path t fs) (here (key_note q).span)))
     by_allowed true = by_lead (leads (plan_in t s) s.got.count q)
@@ -315,7 +316,7 @@ module _ (t : Terms) where
   at_set_step p first fs (stop b n) = at_pass n.span t (stop b n) [] (node (with_argument p first None) ∷ fs)
 
   at_struct_end : (s : StructPart) (fs : Frames) (span : Span) → At span (struct_end t s fs span)
-  at_struct_end s fs span = at_bind span _ as_structure (at_fields span t.setting.registry s.shape (path t fs) s.layout.whole [] 0 s.layout.fields s.got.values) (λ vs. at_ok span _)
+  at_struct_end s fs span = at_bind span _ as_structure (at_fields span t.setting.registry s.shape (path t fs) s.layout.whole s.choice 0 s.layout.fields s.got.values) (λ vs. at_ok span _)
 
   at_node_end : (o : Option Tree) (fs : Frames) (span : Span) → At span (or_unexpected o (path t fs) (here span))
   at_node_end None fs span = at_refused _ (path t fs) span

@@ -10,7 +10,8 @@ use Rattle.semantics.specs.Reading.{Part, of_shape, of_variant, of_tag, of_entry
 use Rattle.laws_reading.specs.Input.{Input, feed, ◌>>=◌, refused, unexpected}
 use Rattle.laws_reading.specs.Objects.{Takes}
 use Rattle.laws_reading.specs.Skips.{Opened, skip_at}
-use Rattle.laws_reading.specs.Structs.{Got, nothing_got, end_at, End, leaf_at, steps_at, is_taken, taken_span, got_value, at_end_of, passed_over, at_path, field_at, gathered, struct_at}
+use Rattle.semantics.specs.Ends.{End, leaf_at, steps_at}
+use Rattle.laws_reading.specs.Structs.{Got, nothing_got, end_at, is_taken, taken_span, got_value, at_end_of, passed_over, at_path, field_at, gathered, struct_at}
 use Rattle.laws_reading.specs.Values.{Terms, reading}
 use Rattle.laws_machine.specs.Frames.{Frame, object, field, Frames, StructPart, path}
 use Rattle.laws_machine.specs.Delivery.{with_got, past_key}
@@ -29,7 +30,7 @@ module _ (t : Terms) (n : ℕ) (meets : Meets t n) (s : ℕ) (d : StructShape) w
   plan = plan_of registry [] d.deny (plain_layout d)
 
   abbrev takes : Takes Got
-  takes = field_at (leaf_at registry [] (plain_layout d)) (steps_at registry (plain_layout d)) plan (end_at (reading t n))
+  takes = field_at (leaf_at registry [] (plain_layout d)) (steps_at registry [] (plain_layout d)) plan (end_at (reading t n))
 
   abbrev part : Got → StructPart
   part got = with_got (new_object s d n) got
@@ -55,7 +56,7 @@ module _ (t : Terms) (n : ℕ) (meets : Meets t n) (s : ℕ) (d : StructShape) w
     abbrev here_on : Input
     here_on = feed es ending (key_note q).span
 
-    by_value : (p : Path) (o : End) (r : Result (Tree × Input) Fault) → end_at (reading t n) o.part q (path t fs ++ steps_at registry (plain_layout d) p) here_on ≡ r
+    by_value : (p : Path) (o : End) (r : Result (Tree × Input) Fault) → end_at (reading t n) o.part q (path t fs ++ steps_at registry [] (plain_layout d) p) here_on ≡ r
         → (r >>= resume t (field (past_key (part got) q) (entered p q) ∷ fs)) ≡ ((r >>= got_value (after_key got.count q) got.values p q) >>= λ x. then x.0 x.1)
     by_value p o (Ok x) is = again _ x.1 (omega (arith, end_falls o.part q _ here_on x is))
     by_value p o (Err f) is = refl
@@ -63,14 +64,14 @@ module _ (t : Terms) (n : ℕ) (meets : Meets t n) (s : ℕ) (d : StructShape) w
     by_taken : (p : Path) (o : End) (b : Bool)
         → (cond b (refused (duplicate_field (key_text q) (taken_span p got.values)) (path t fs) here_on) (await_end t n o.part q (field (past_key (part got) q) (entered p q) ∷ fs) (key_note q).span) >>= on t here_on)
         ≡ (cond b (refused (duplicate_field (key_text q) (taken_span p got.values)) (path t fs) here_on)
-        (end_at (reading t n) o.part q (path t fs ++ steps_at registry (plain_layout d) p) here_on >>= got_value (after_key got.count q) got.values p q) >>= λ x. then x.0 x.1)
+        (end_at (reading t n) o.part q (path t fs ++ steps_at registry [] (plain_layout d) p) here_on >>= got_value (after_key got.count q) got.values p q) >>= λ x. then x.0 x.1)
     by_taken p o true = refl
     by_taken p o false =
         end_meets o.part q (field (past_key (part got) q) (entered p q) ∷ fs) here_on
-        ∙ by_value p o (end_at (reading t n) o.part q (path t fs ++ steps_at registry (plain_layout d) p) here_on) refl
+        ∙ by_value p o (end_at (reading t n) o.part q (path t fs ++ steps_at registry [] (plain_layout d) p) here_on) refl
 
     by_end : (p : Path) (o : Option End) → (end_step o t (past_key (part got) q) p q fs >>= on t here_on)
-        ≡ (at_end_of o (steps_at registry (plain_layout d) p) (end_at (reading t n)) p q (after_key got.count q) got.values (path t fs) here_on >>= λ x. then x.0 x.1)
+        ≡ (at_end_of o (steps_at registry [] (plain_layout d) p) (end_at (reading t n)) p q (after_key got.count q) got.values (path t fs) here_on >>= λ x. then x.0 x.1)
     by_end p None = refl
     by_end p (Some o) = by_taken p o (not o.many && is_taken p got.values)
 
@@ -80,12 +81,12 @@ module _ (t : Terms) (n : ℕ) (meets : Meets t n) (s : ℕ) (d : StructShape) w
     by_skip (Err f) is = refl
 
     by_lead : (o : Option Path) → (lead_step o t (part got) q fs >>= on t here_on)
-        ≡ (at_path (leaf_at registry [] (plain_layout d)) (steps_at registry (plain_layout d)) o (end_at (reading t n)) q (after_key got.count q) got.values (path t fs) here_on >>= λ x. then x.0 x.1)
+        ≡ (at_path (leaf_at registry [] (plain_layout d)) (steps_at registry [] (plain_layout d)) o (end_at (reading t n)) q (after_key got.count q) got.values (path t fs) here_on >>= λ x. then x.0 x.1)
     by_lead None = skip_meets t (object (past_key (part got) q) ∷ fs) here_on ∙ by_skip (skip_at (path t fs) here_on) refl
     by_lead (Some p) = by_end p (leaf_at registry [] (plain_layout d) p)
 
     by_allowed : (b : Bool) → (cond b (lead_step (leads plan got.count q) t (part got) q fs) (unexpected (path t fs) here_on) >>= on t here_on)
-        ≡ (cond b (at_path (leaf_at registry [] (plain_layout d)) (steps_at registry (plain_layout d)) (leads plan got.count q) (end_at (reading t n)) q (after_key got.count q) got.values (path t fs) here_on) (unexpected (path t fs) here_on)
+        ≡ (cond b (at_path (leaf_at registry [] (plain_layout d)) (steps_at registry [] (plain_layout d)) (leads plan got.count q) (end_at (reading t n)) q (after_key got.count q) got.values (path t fs) here_on) (unexpected (path t fs) here_on)
         >>= λ x. then x.0 x.1)
     by_allowed true = by_lead (leads plan got.count q)
     by_allowed false = refl

@@ -67,7 +67,7 @@ new_tuple s d n = record { elements = record { shape = s; fields = d.fields }; d
 
 -- a struct with no values yet
 abbrev pub new_object : ℕ → StructShape → ℕ → StructPart
-new_object s d n = record { shape = s; deny = d.deny; layout = plain_layout d; depth = n; got = nothing_got }
+new_object s d n = record { shape = s; deny = d.deny; layout = plain_layout d; choice = []; depth = n; got = nothing_got }
 
 -- a result before its key
 abbrev pub new_result : ℕ → ℕ → ℕ → ResultPart

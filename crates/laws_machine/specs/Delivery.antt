@@ -36,7 +36,7 @@ with_element l v = record { elements = l.elements; depth = l.depth; front = l.fr
 
 -- a struct with other values
 abbrev pub with_got : StructPart → Got → StructPart
-with_got s got = record { shape = s.shape; deny = s.deny; layout = s.layout; depth = s.depth; got = got }
+with_got s got = record { shape = s.shape; deny = s.deny; layout = s.layout; choice = s.choice; depth = s.depth; got = got }
 
 -- what is told behind a key
 abbrev pub told_behind : Entered → Tree → At Told

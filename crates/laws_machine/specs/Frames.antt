@@ -4,10 +4,11 @@ use Rattle.semantics.specs.Texts.{Phrase}
 use Rattle.semantics.specs.Trees.{Tree}
 use Rattle.semantics.specs.Events.{Span}
 use Rattle.semantics.specs.Faults.{Step, index_step, variant_step}
-use Rattle.semantics.specs.Places.{Path}
+use Rattle.semantics.specs.Places.{Path, Choice}
 use Rattle.semantics.specs.Keys.{Layout}
 use Rattle.laws_reading.specs.Skips.{Opened}
-use Rattle.laws_reading.specs.Structs.{Got, steps_at}
+use Rattle.semantics.specs.Ends.{steps_at}
+use Rattle.laws_reading.specs.Structs.{Got}
 use Rattle.laws_reading.specs.Nodes.{Target, Node}
 use Rattle.laws_reading.specs.Options.{Sides, side_of}
 use Rattle.laws_reading.specs.Sequences.{Items}
@@ -37,6 +38,8 @@ pub record StructPart : Type 0 where
   pub shape : ℕ
   pub deny : Bool
   pub layout : Layout
+  -- the variants that are chosen for its flattened enums
+  pub choice : Choice
   pub depth : ℕ
   pub got : Got
 
@@ -87,7 +90,7 @@ abbrev pub path_in : Terms → Frame → List Step → List Step
 path_in t (items l) p = p ++ (index_step (length l.front) ∷ [])
 path_in t (elements l) p = p ++ (index_step (length l.front) ∷ [])
 path_in t (keyed_item l) p = p ++ (index_step (length l.front) ∷ [])
-path_in t (field s e) p = p ++ steps_at t.setting.registry s.layout e.path
+path_in t (field s e) p = p ++ steps_at t.setting.registry s.choice s.layout e.path
 path_in t (outcome_side r b) p = p ++ (variant_step (side_of r.sides b).name ∷ [])
 path_in t _ p = p
 

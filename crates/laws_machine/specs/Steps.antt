@@ -11,7 +11,8 @@ use Rattle.semantics.specs.Causes.{ends_sequence, has_room}
 use Rattle.semantics.specs.Typed.{has_length}
 use Rattle.laws_reading.specs.Input.{Input, ◌>>=◌, refused, unexpected, never}
 use Rattle.laws_reading.specs.Skips.{Opened, skip_of}
-use Rattle.laws_reading.specs.Structs.{End, leaf_at, is_taken, taken_span, gathered}
+use Rattle.semantics.specs.Ends.{End, leaf_at}
+use Rattle.laws_reading.specs.Structs.{is_taken, taken_span, gathered}
 use Rattle.laws_reading.specs.Nodes.{set_at, node_value}
 use Rattle.laws_reading.specs.Options.{side_of, side_in, outcome}
 use Rattle.laws_reading.specs.Sequences.{other_length, items_end}
@@ -72,7 +73,7 @@ entry_step e enters whole t fs = unexpected (path t fs) (here (span_of e))
 
 -- where the keys of a struct lead
 abbrev pub plan_in : Terms → StructPart → Plan
-plan_in t s = plan_of t.setting.registry [] s.deny s.layout
+plan_in t s = plan_of t.setting.registry s.choice s.deny s.layout
 
 -- a key that leads to a path
 abbrev pub entered : Path → Key → Entered
@@ -89,7 +90,7 @@ end_step (Some o) t s p q fs =
 -- the value of a key that leads there, or that is passed over
 abbrev pub lead_step : Option Path → Terms → StructPart → Key → Frames → Steps
 lead_step None t s q fs = Ok (going (passing [] ∷ object (past_key s q) ∷ fs))
-lead_step (Some p) t s q fs = end_step (leaf_at t.setting.registry [] s.layout p) t (past_key s q) p q fs
+lead_step (Some p) t s q fs = end_step (leaf_at t.setting.registry s.choice s.layout p) t (past_key s q) p q fs
 
 -- a key of a struct
 abbrev pub field_step : Terms → StructPart → Frames → Key → Steps
@@ -97,7 +98,7 @@ field_step t s fs q = cond (is_allowed (plan_in t s) s.got.count q) (lead_step (
 
 -- the end of a struct
 abbrev pub struct_end : Terms → StructPart → Frames → Span → Result Tree Fault
-struct_end t s fs last = gathered t.setting.registry [] s.layout s.shape s.got (path t fs) (here last)
+struct_end t s fs last = gathered t.setting.registry s.choice s.layout s.shape s.got (path t fs) (here last)
 
 -- the key of a result
 abbrev pub side_step : Option Bool → Terms → ResultPart → Awaits

@@ -15,7 +15,8 @@ use Rattle.semantics.specs.Causes.{IsOpen, last_span, Part, IsObject, Begun, fie
 use Rattle.laws_reading.specs.Input.{Input, feed, unexpected}
 use Rattle.laws_reading.specs.Objects.{Takes}
 use Rattle.laws_reading.specs.Skips.{skip_at}
-use Rattle.laws_reading.specs.Structs.{Told, Got, nothing_got, ReadsPart, end_at, End, leaf_at, steps_at, is_taken, taken_span, got_value, passed_over, field_at, Spot, gather_fields, gather_flat, as_structure, gathered, struct_at}
+use Rattle.semantics.specs.Ends.{End, leaf_at, steps_at}
+use Rattle.laws_reading.specs.Structs.{Told, Got, nothing_got, ReadsPart, end_at, is_taken, taken_span, got_value, passed_over, field_at, Spot, gather_fields, gather_flat, as_structure, gathered, struct_at}
 use Rattle.laws_reading.specs.Values.{Terms, reading}
 use Rattle.laws_reading.specs.Laws.{Sound}
 use Rattle.laws_reading.specs.Causes.{fault, Cause, missing_at, duplicate_at, part_of, Fails}
@@ -46,7 +47,7 @@ module _ (terms : Terms) (n s : ℕ) (source : Source) (d : StructShape)
   plan = plan_of g [] d.deny (plain_layout d)
 
   abbrev takes : Takes Got
-  takes = field_at (leaf_at g [] (plain_layout d)) (steps_at g (plain_layout d)) plan (end_at (reading terms n))
+  takes = field_at (leaf_at g [] (plain_layout d)) (steps_at g [] (plain_layout d)) plan (end_at (reading terms n))
 
   abbrev mean : List Entry → Option Tree
   mean = read_struct g (read terms.setting n) [] d.deny (plain_layout d)
@@ -144,7 +145,7 @@ module _ (terms : Terms) (n s : ℕ) (source : Source) (d : StructShape)
 
         value_fails : (e : End) (p : Path) → leads plan got.count q ≡ Some p → leaf_at g [] (plain_layout d) p ≡ Some e → by_value terms n s d sound e p q got path input ≡ Err f → Here
         value_fails e p lead ends told =
-            elim (bind_err (end_at (reading terms n) e.part q (path ++ steps_at g (plain_layout d) p) input) (got_value (after_key got.count q) got.values p q) f told) [
+            elim (bind_err (end_at (reading terms n) e.part q (path ++ steps_at g [] (plain_layout d) p) input) (got_value (after_key got.count q) got.values p q) f told) [
               | inl x ↦
                   let field = leaf_is g [] (plain_layout d) p e ends in
                   let inside : reading terms n field.field.shape (source_of q) (path ++ (field_step field.field.name ∷ [])) input ≡ Err f =

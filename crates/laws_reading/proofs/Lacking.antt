@@ -13,7 +13,8 @@ use Rattle.semantics.specs.Places.{Path, At, rest_at, below, is_end, has_whole, 
 use Rattle.semantics.specs.Keys.{Layout}
 use Rattle.semantics.specs.Reading.{PartReader, parts_by, fill, in_parts}
 use Rattle.laws_reading.specs.Input.{◌>>=◌, fault_at}
-use Rattle.laws_reading.specs.Structs.{Told, End, one_shape, leaf_end, leaf_found, leaf_flat, leaf_at, flat_steps, steps_found, steps_at, is_filled, Spot, or_missing, inner_spot, gather_own, gather_flat, gather_field, gather_fields, with_tree, is_taken}
+use Rattle.semantics.specs.Ends.{End, one_shape, leaf_end, leaf_found, leaf_flat, leaf_at, flat_steps, steps_found, steps_at}
+use Rattle.laws_reading.specs.Structs.{Told, is_filled, Spot, or_missing, inner_spot, gather_own, gather_flat, gather_field, gather_fields, with_tree, is_taken}
 use Rattle.laws.proofs.Built.{BuiltField}
 use Rattle.laws_reading.proofs.Errors.{bind_err, err_is}
 use Rattle.laws_reading.proofs.Ends.{Kept, placed_at}
@@ -53,42 +54,42 @@ origin_of ends rd y (x ∷ xs) (b ∷ ys) (z ∷ before) after is (first, more) 
     record { item = t.item; among = record { before = x ∷ t.among.before; after = t.among.after; is = ap (λ l. x ∷ l) t.among.is }; path = t.path; span = t.span }
 
 -- where a path of today's forms ends
-pub record IsField (g : Registry) (l : Layout) (p : Path) (s : End) : Type 0 where
+pub record IsField (g : Registry) (c : Choice) (l : Layout) (p : Path) (s : End) : Type 0 where
   pub place : ℕ
   pub field : Field
   pub path : p ≡ place ∷ []
   pub here : slice_get l.fields place ≡ Some field
   pub end : s ≡ one_shape field.shape
-  pub steps : steps_at g l p ≡ field_step field.name ∷ []
+  pub steps : steps_at g c l p ≡ field_step field.name ∷ []
 
 flat_none : (g : Registry) (whole : Bool) (n : ℕ) (d : Option Definition) (c : Choice) (p : Path) → leaf_flat g whole n d c p ≡ None
 flat_none g whole zero d c p = refl
 flat_none g whole (suc n) d c p = refl
 
-flat_nowhere : (g : Registry) (n : ℕ) (d : Option Definition) (p : Path) → flat_steps g n d p ≡ []
-flat_nowhere g zero d p = refl
-flat_nowhere g (suc n) d p = refl
+flat_nowhere : (g : Registry) (n : ℕ) (d : Option Definition) (c : Choice) (p : Path) → flat_steps g n d c p ≡ []
+flat_nowhere g zero d c p = refl
+flat_nowhere g (suc n) d c p = refl
 
-pub leaf_is : (g : Registry) (c : Choice) (l : Layout) (p : Path) (s : End) → leaf_at g c l p ≡ Some s → IsField g l p s
+pub leaf_is : (g : Registry) (c : Choice) (l : Layout) (p : Path) (s : End) → leaf_at g c l p ≡ Some s → IsField g c l p s
 leaf_is g c l [] s e = absurd cc
 leaf_is g c l (k ∷ p) s e = by_field (slice_get l.fields k) refl e
   where
-    by_end : (f : Field) → slice_get l.fields k ≡ Some f → (p' : Path) → p ≡ p' → leaf_end (Some (one_shape f.shape)) p' ≡ Some s → IsField g l (k ∷ p) s
+    by_end : (f : Field) → slice_get l.fields k ≡ Some f → (p' : Path) → p ≡ p' → leaf_end (Some (one_shape f.shape)) p' ≡ Some s → IsField g c l (k ∷ p) s
     by_end f is [] at e = record {
       place = k;
       field = f;
       path = ap (λ q. k ∷ q) at;
       here = is;
       end = (let same : one_shape f.shape ≡ s = cc in sym same);
-      steps = ap (λ q. steps_at g l (k ∷ q)) at ∙ ap (λ o. steps_found (flat_steps g (length g)) g o []) is ∙ ap (λ z. field_step f.name ∷ z) (flat_nowhere g (length g) (definition_at g f.shape) []);
+      steps = ap (λ q. steps_at g c l (k ∷ q)) at ∙ ap (λ o. steps_found (flat_steps g (length g)) g (below k c) o []) is ∙ ap (λ z. field_step f.name ∷ z) (flat_nowhere g (length g) (definition_at g f.shape) (below k c) []);
     }
     by_end f is (j ∷ p') at e = absurd cc
 
-    by_field : (o : Option Field) → slice_get l.fields k ≡ o → leaf_found (leaf_flat g l.whole (length g)) g l.whole (below k c) o p ≡ Some s → IsField g l (k ∷ p) s
+    by_field : (o : Option Field) → slice_get l.fields k ≡ o → leaf_found (leaf_flat g l.whole (length g)) g l.whole (below k c) o p ≡ Some s → IsField g c l (k ∷ p) s
     by_field None is e = absurd cc
     by_field (Some f) is e = by_test (in_parts l.whole f (is_end p)) e
       where
-        by_test : (b : Bool) → cond b (leaf_flat g l.whole (length g) (definition_at g f.shape) (below k c) p) (leaf_end (Some (one_shape f.shape)) p) ≡ Some s → IsField g l (k ∷ p) s
+        by_test : (b : Bool) → cond b (leaf_flat g l.whole (length g) (definition_at g f.shape) (below k c) p) (leaf_end (Some (one_shape f.shape)) p) ≡ Some s → IsField g c l (k ∷ p) s
         by_test true e = let none = flat_none g l.whole (length g) (definition_at g f.shape) (below k c) p in absurd cc
         by_test false e = by_end f is p refl e
 

@@ -5,7 +5,7 @@ use Rattle.semantics.specs.Shapes.{Field, Definition, Registry, definition_at}
 use Rattle.semantics.specs.Events.{Key, named, nameless, ordered}
 use Rattle.semantics.specs.Places.{Path, below, under, is_end, Choice}
 use Rattle.semantics.specs.Keys.{Declared, alias_key, own_keys, Layout, keys_by, flat_keys, keys, path_of, or_path, stray_by, flat_stray, plan_of, leads, is_allowed}
-use Rattle.laws_reading.specs.Structs.{End, one_shape, leaf_end, FlatLeaf, leaf_flat, leaf_at}
+use Rattle.semantics.specs.Ends.{End, one_shape, leaf_end, FlatLeaf, leaf_flat, leaf_at}
 use Rattle.laws_reading.proofs.Ends.{Ends, Covers, covers_all}
 
 -- each declared key leads to a part

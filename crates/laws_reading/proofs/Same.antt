@@ -4,7 +4,8 @@ use Rattle.semantics.specs.Shapes.{Field, Definition, Registry, definition_at}
 use Rattle.semantics.specs.Places.{Path, At, below, is_end, has_whole, Choice}
 use Rattle.semantics.specs.Keys.{Layout}
 use Rattle.semantics.specs.Reading.{of_shape, Parts, FlatReader, read_own, in_parts, read_field, and_trees, read_fields, read_flat, read_layout}
-use Rattle.laws_reading.specs.Structs.{Told, End, one_shape, leaf_end, FlatLeaf, leaf_field, leaf_flat, leaf_at, kept}
+use Rattle.semantics.specs.Ends.{End, one_shape, leaf_end, FlatLeaf, leaf_field, leaf_flat, leaf_at}
+use Rattle.laws_reading.specs.Structs.{Told, kept}
 use Rattle.laws_reading.proofs.Ends.{Ends, Kept, kept_as, kept_below, whole_kept, kept_parts, end_is, Covers, covers_next, covers_first, covers_all}
 
 module _ {A : Type 0} (g : Registry) (rd : Parts A) (whole : Bool) where

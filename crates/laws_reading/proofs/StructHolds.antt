@@ -14,7 +14,8 @@ use Rattle.semantics.specs.Causes.{ordered_count}
 use Rattle.laws_reading.specs.Input.{Input, feed, ◌>>=◌, refused, unexpected}
 use Rattle.laws_reading.specs.Objects.{Takes}
 use Rattle.laws_reading.specs.Skips.{skip_at}
-use Rattle.laws_reading.specs.Structs.{Told, Got, ReadsPart, end_at, End, one_shape, leaf_at, steps_at, is_taken, taken_span, told_at, got_value, at_end_of, passed_over, at_path, field_at}
+use Rattle.semantics.specs.Ends.{End, one_shape, leaf_at, steps_at}
+use Rattle.laws_reading.specs.Structs.{Told, Got, ReadsPart, end_at, is_taken, taken_span, told_at, got_value, at_end_of, passed_over, at_path, field_at}
 use Rattle.laws_reading.specs.Values.{Terms, reading}
 use Rattle.laws_reading.specs.Laws.{Sound}
 use Rattle.laws_reading.proofs.Steps.{bind_ok, ok_is}
@@ -35,7 +36,7 @@ module _ (terms : Terms) (n s : ℕ) (d : StructShape) (sound : (s : ℕ) (sourc
   rd = part_value g (read terms.setting n)
 
   abbrev pub takes : Takes Got
-  takes = field_at (leaf_at g [] (plain_layout d)) (steps_at g (plain_layout d)) plan (end_at (reading terms n))
+  takes = field_at (leaf_at g [] (plain_layout d)) (steps_at g [] (plain_layout d)) plan (end_at (reading terms n))
 
   abbrev pub mean : List Entry → Option Tree
   mean = read_struct g (read terms.setting n) [] d.deny (plain_layout d)
@@ -61,22 +62,22 @@ module _ (terms : Terms) (n s : ℕ) (d : StructShape) (sound : (s : ℕ) (sourc
 
   -- what the value behind a key comes to, by the test of each step
   abbrev pub by_end : Option End → Path → Key → Got → List Step → Input → Result (Got × Input) Fault
-  by_end o p q got path input = at_end_of o (steps_at g (plain_layout d) p) (end_at (reading terms n)) p q (after_key got.count q) got.values path input
+  by_end o p q got path input = at_end_of o (steps_at g [] (plain_layout d) p) (end_at (reading terms n)) p q (after_key got.count q) got.values path input
 
   abbrev pub by_value : End → Path → Key → Got → List Step → Input → Result (Got × Input) Fault
-  by_value e p q got path input = end_at (reading terms n) e.part q (path ++ steps_at g (plain_layout d) p) input >>= got_value (after_key got.count q) got.values p q
+  by_value e p q got path input = end_at (reading terms n) e.part q (path ++ steps_at g [] (plain_layout d) p) input >>= got_value (after_key got.count q) got.values p q
 
   abbrev pub by_test : Bool → End → Path → Key → Got → List Step → Input → Result (Got × Input) Fault
   by_test b e p q got path input = cond b (refused (duplicate_field (key_text q) (taken_span p got.values)) path input) (by_value e p q got path input)
 
   abbrev pub by_lead : Option Path → Key → Got → List Step → Input → Result (Got × Input) Fault
-  by_lead o q got path input = at_path (leaf_at g [] (plain_layout d)) (steps_at g (plain_layout d)) o (end_at (reading terms n)) q (after_key got.count q) got.values path input
+  by_lead o q got path input = at_path (leaf_at g [] (plain_layout d)) (steps_at g [] (plain_layout d)) o (end_at (reading terms n)) q (after_key got.count q) got.values path input
 
   added_value : (e : End) (p : Path) (q : Key) (got got' : Got) (path : List Step) (input after : Input) → leads plan got.count q ≡ Some p → leaf_at g [] (plain_layout d) p ≡ Some e
       → (b : Bool) → (not e.many && is_taken p got.values) ≡ b → by_test b e p q got path input ≡ Ok (got', after) → Added q got got'
   added_value e p q got got' path input after lead ends true taken told = absurd cc
   added_value e p q got got' path input after lead ends false taken told =
-      let (v, read_as, made) = bind_ok (end_at (reading terms n) e.part q (path ++ steps_at g (plain_layout d) p) input) (got_value (after_key got.count q) got.values p q) (got', after) told in
+      let (v, read_as, made) = bind_ok (end_at (reading terms n) e.part q (path ++ steps_at g [] (plain_layout d) p) input) (got_value (after_key got.count q) got.values p q) (got', after) told in
       let same = ok_is (record { count = after_key got.count q; values = got.values ++ (told_at p q v.0 ∷ []) }, v.1) (got', after) made in
       record { path = p; value = v.0; end = e; leads_to = lead; ends = ends; free = taken; is = sym (ap (λ (y : Got × Input). y.0.values) same) }
 

@@ -12,7 +12,8 @@ use Rattle.semantics.specs.Keys.{Layout, plan_of, leads, after_key, with_entry, 
 use Rattle.semantics.specs.Reading.{Source, Reader, Part, of_shape, of_variant, of_tag, of_entry, PartReader, part_value, source_of, key_text, parts_by, read_layout, read_entries, read_object}
 use Rattle.semantics.specs.Causes.{last_span}
 use Rattle.laws_reading.specs.Input.{Input, feed, ◌>>=◌, Reads, refused, unexpected}
-use Rattle.laws_reading.specs.Structs.{ReadsPart, ReadsEnd, end_at, Told, Got, nothing_got, End, leaf_at, steps_at, is_taken, taken_span, told_at, got_value, at_end_of, passed_over, at_path, field_at, kept, as_structure, gathered_trees, gathered, struct_at}
+use Rattle.semantics.specs.Ends.{End, leaf_at, steps_at}
+use Rattle.laws_reading.specs.Structs.{ReadsPart, ReadsEnd, end_at, Told, Got, nothing_got, is_taken, taken_span, told_at, got_value, at_end_of, passed_over, at_path, field_at, kept, as_structure, gathered_trees, gathered, struct_at}
 use Rattle.laws_reading.specs.Objects.{Takes, object_at}
 use Rattle.laws_reading.specs.Skips.{skip_at}
 use Rattle.laws_reading.specs.Laws.{Sound, Complete}
@@ -70,7 +71,7 @@ module _ (g : Registry) (rd : PartReader) (read : ReadsEnd) (c : Choice) (deny :
     lead = leads (plan_of g c deny l) (after_keys 0 es) q
 
     abbrev field_on : ℕ → List (At Told) → Reads Got
-    field_on n got path input = cond (is_allowed (plan_of g c deny l) n q) (at_path (leaf_at g c l) (steps_at g l) (leads (plan_of g c deny l) n q) read q (after_key n q) got path input) (unexpected path input)
+    field_on n got path input = cond (is_allowed (plan_of g c deny l) n q) (at_path (leaf_at g c l) (steps_at g c l) (leads (plan_of g c deny l) n q) read q (after_key n q) got path input) (unexpected path input)
 
     next : (r : Run) (got : List (At Told)) → are_allowed (plan_of g c deny l) 0 es ≡ true → is_allowed (plan_of g c deny l) n q ≡ true → Kept (leaf_at g c l) (parts_by rd) (placed (plan_of g c deny l) 0 (es ++ (entry q r ∷ []))) got
         → Keeps (es ++ (entry q r ∷ [])) (record { count = after_key n q; values = got })
@@ -96,11 +97,11 @@ module _ (g : Registry) (rd : PartReader) (read : ReadsEnd) (c : Choice) (deny :
         Taken = (r : Run) × (es' ≡ run_events r ++ after.events) × (after.ending ≡ ending) × (after.last ≡ last_span last (run_events r)) × Keeps (es ++ (entry q r ∷ [])) s'
 
         sound_value : is_allowed (plan_of g c deny l) n q ≡ true → (p : Path) (s : End) → lead ≡ Some p → leaf_at g c l p ≡ Some s
-            → (read s.part q (path ++ steps_at g l p) (feed es' ending last) >>= got_value (after_key n q) got p q) ≡ Ok (s', after) → Taken
+            → (read s.part q (path ++ steps_at g c l p) (feed es' ending last) >>= got_value (after_key n q) got p q) ≡ Ok (s', after) → Taken
         sound_value one p s is end e =
-            let (v, told, made) = bind_ok (read s.part q (path ++ steps_at g l p) (feed es' ending last)) (got_value (after_key n q) got p q) (s', after) e in
+            let (v, told, made) = bind_ok (read s.part q (path ++ steps_at g c l p) (feed es' ending last)) (got_value (after_key n q) got p q) (s', after) e in
             let same = ok_is (record { count = after_key n q; values = got ++ (told_at p q v.0 ∷ []) }, v.1) (s', after) made in
-            let (r, cut, ends, at, reads) = sound s.part q (path ++ steps_at g l p) es' ending last v.0 v.1 told in (
+            let (r, cut, ends, at, reads) = sound s.part q (path ++ steps_at g c l p) es' ending last v.0 v.1 told in (
               r,
               cut ∙ ap (λ (y : Got × Input). run_events r ++ y.1.events) same,
               sym (ap (λ (y : Got × Input). y.1.ending) same) ∙ ends,
@@ -108,12 +109,12 @@ module _ (g : Registry) (rd : PartReader) (read : ReadsEnd) (c : Choice) (deny :
               subst (λ (y : Got × Input). Keeps (es ++ (entry q r ∷ [])) y.0) same (next r (got ++ (told_at p q v.0 ∷ [])) all one (put_in r got p s v.0 is end reads h)),
             )
 
-        sound_end : is_allowed (plan_of g c deny l) n q ≡ true → (p : Path) (o : Option End) → lead ≡ Some p → leaf_at g c l p ≡ o → at_end_of o (steps_at g l p) read p q (after_key n q) got path (feed es' ending last) ≡ Ok (s', after) → Taken
+        sound_end : is_allowed (plan_of g c deny l) n q ≡ true → (p : Path) (o : Option End) → lead ≡ Some p → leaf_at g c l p ≡ o → at_end_of o (steps_at g c l p) read p q (after_key n q) got path (feed es' ending last) ≡ Ok (s', after) → Taken
         sound_end one p None is end e = absurd cc
         sound_end one p (Some s) is end e = by_test (not s.many && is_taken p got) e
           where
             by_test : (b : Bool)
-                → cond b (refused (duplicate_field (key_text q) (taken_span p got)) path (feed es' ending last)) (read s.part q (path ++ steps_at g l p) (feed es' ending last) >>= got_value (after_key n q) got p q) ≡ Ok (s', after) → Taken
+                → cond b (refused (duplicate_field (key_text q) (taken_span p got)) path (feed es' ending last)) (read s.part q (path ++ steps_at g c l p) (feed es' ending last) >>= got_value (after_key n q) got p q) ≡ Ok (s', after) → Taken
             by_test true e = absurd cc
             by_test false e = sound_value one p s is end e
 
@@ -129,7 +130,7 @@ module _ (g : Registry) (rd : PartReader) (read : ReadsEnd) (c : Choice) (deny :
               subst (λ (y : Got × Input). Keeps (es ++ (entry q r ∷ [])) y.0) same (next r got all one (put_nowhere r got is h)),
             )
 
-        sound_path : is_allowed (plan_of g c deny l) n q ≡ true → (o : Option Path) → lead ≡ o → at_path (leaf_at g c l) (steps_at g l) o read q (after_key n q) got path (feed es' ending last) ≡ Ok (s', after) → Taken
+        sound_path : is_allowed (plan_of g c deny l) n q ≡ true → (o : Option Path) → lead ≡ o → at_path (leaf_at g c l) (steps_at g c l) o read q (after_key n q) got path (feed es' ending last) ≡ Ok (s', after) → Taken
         sound_path one None is e = sound_nowhere one is e
         sound_path one (Some p) is e = sound_end one p (leaf_at g c l p) is refl e
 
@@ -137,7 +138,7 @@ module _ (g : Registry) (rd : PartReader) (read : ReadsEnd) (c : Choice) (deny :
         sound_field e = by_test (is_allowed (plan_of g c deny l) n q) refl e
           where
             by_test : (b : Bool) → is_allowed (plan_of g c deny l) n q ≡ b
-                → cond b (at_path (leaf_at g c l) (steps_at g l) lead read q (after_key n q) got path (feed es' ending last)) (unexpected path (feed es' ending last)) ≡ Ok (s', after) → Taken
+                → cond b (at_path (leaf_at g c l) (steps_at g c l) lead read q (after_key n q) got path (feed es' ending last)) (unexpected path (feed es' ending last)) ≡ Ok (s', after) → Taken
             by_test true one e = sound_path one lead refl e
             by_test false one e = absurd cc
 
@@ -160,27 +161,27 @@ module _ (g : Registry) (rd : PartReader) (read : ReadsEnd) (c : Choice) (deny :
             by_test false = refl
 
         of_value : is_allowed (plan_of g c deny l) n q ≡ true → (p : Path) (s : End) → lead ≡ Some p → leaf_at g c l p ≡ Some s → (o : Option Tree) → rd s.part q r ≡ o
-            → Answer (read s.part q (path ++ steps_at g l p) input >>= got_value (after_key n q) got p q)
+            → Answer (read s.part q (path ++ steps_at g c l p) input >>= got_value (after_key n q) got p q)
         of_value one p s is end None reads = inl (none_read p s is end (inl reads))
         of_value one p s is end (Some v) reads =
-            let told = complete s.part q (path ++ steps_at g l p) r v rest ending last reads in
+            let told = complete s.part q (path ++ steps_at g c l p) r v rest ending last reads in
             inr (record { count = after_key n q; values = got ++ (told_at p q v ∷ []) }, ap (λ z. z >>= got_value (after_key n q) got p q) told, next r (got ++ (told_at p q v ∷ [])) all one (put_in r got p s v is end reads h))
 
         of_end : is_allowed (plan_of g c deny l) n q ≡ true → (p : Path) (s : End) → lead ≡ Some p → leaf_at g c l p ≡ Some s → (b : Bool) → (not s.many && is_taken p got) ≡ b
-            → Answer (cond b (refused (duplicate_field (key_text q) (taken_span p got)) path input) (read s.part q (path ++ steps_at g l p) input >>= got_value (after_key n q) got p q))
+            → Answer (cond b (refused (duplicate_field (key_text q) (taken_span p got)) path input) (read s.part q (path ++ steps_at g c l p) input >>= got_value (after_key n q) got p q))
         of_end one p s is end true taken = inl (none_read p s is end (inr (ap (λ b. not s.many && b) (taken_kept (leaf_at g c l) (parts_by rd) p (placed (plan_of g c deny l) 0 es) got h) ∙ taken)))
         of_end one p s is end false taken = of_value one p s is end (rd s.part q r) refl
 
-        of_path : is_allowed (plan_of g c deny l) n q ≡ true → (o : Option Path) → lead ≡ o → Answer (at_path (leaf_at g c l) (steps_at g l) o read q (after_key n q) got path input)
+        of_path : is_allowed (plan_of g c deny l) n q ≡ true → (o : Option Path) → lead ≡ o → Answer (at_path (leaf_at g c l) (steps_at g c l) o read q (after_key n q) got path input)
         of_path one None is = inr (record { count = after_key n q; values = got }, ap (λ z. z >>= passed_over (after_key n q) got) (skip_complete path r rest ending last), next r got all one (put_nowhere r got is h))
         of_path one (Some p) is =
             let (s, end) = key_leads g c deny l n q p is one in
-            subst (λ o. Answer (at_end_of o (steps_at g l p) read p q (after_key n q) got path input)) (sym end) (of_end one p s is end (not s.many && is_taken p got) refl)
+            subst (λ o. Answer (at_end_of o (steps_at g c l p) read p q (after_key n q) got path input)) (sym end) (of_end one p s is end (not s.many && is_taken p got) refl)
 
         of_field : Answer (field_on n got path input)
         of_field = by_test (is_allowed (plan_of g c deny l) n q) refl
           where
-            by_test : (b : Bool) → is_allowed (plan_of g c deny l) n q ≡ b → Answer (cond b (at_path (leaf_at g c l) (steps_at g l) lead read q (after_key n q) got path input) (unexpected path input))
+            by_test : (b : Bool) → is_allowed (plan_of g c deny l) n q ≡ b → Answer (cond b (at_path (leaf_at g c l) (steps_at g c l) lead read q (after_key n q) got path input) (unexpected path input))
             by_test true one = of_path one lead refl
             by_test false one = inl (λ l'. ap (λ b. cond b (read_layout g (parts_by rd) c l (placed (plan_of g c deny l) 0 (es ++ (entry q r ∷ l')))) None) (not_allowed (plan_of g c deny l) 0 es (entry q r) l' one))
 
@@ -189,7 +190,7 @@ module _ (g : Registry) (rd : PartReader) (read : ReadsEnd) (c : Choice) (deny :
   mean = read_entries g (parts_by rd) c deny l
 
   abbrev takes : Takes Got
-  takes = field_at (leaf_at g c l) (steps_at g l) (plan_of g c deny l) read
+  takes = field_at (leaf_at g c l) (steps_at g c l) (plan_of g c deny l) read
 
   pub field_sound : ((p : Part) (q : Key) → Sound (rd p q) (read p q)) → EntrySound Got Trees mean takes Keeps
   field_sound sound es s (all, count, h) q path l' ending last s' after e =

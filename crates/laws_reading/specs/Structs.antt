@@ -7,6 +7,7 @@ use Rattle.semantics.specs.Faults.{Step, field_step, missing_field, duplicate_fi
 use Rattle.semantics.specs.Places.{Path, At, below, is_end, has_whole, Choice}
 use Rattle.semantics.specs.Keys.{Layout, Plan, plan_of, leads, after_key, is_allowed}
 use Rattle.semantics.specs.Reading.{Source, Part, of_shape, of_variant, of_tag, of_entry, Parts, key_text, source_of, fill, in_parts}
+use Rattle.semantics.specs.Ends.{End, leaf_at, steps_at}
 use Rattle.laws_reading.specs.Input.{Input, ◌>>=◌, Reads, refused, unexpected, never}
 use Rattle.laws_reading.specs.Objects.{Takes, Finish, object_at}
 use Rattle.laws_reading.specs.Skips.{Opened, skip_at}
@@ -39,68 +40,7 @@ pub record Got : Type 0 where
 abbrev pub nothing_got : Got
 nothing_got = record { count = 0; values = [] }
 
--- what stands at the end of a path, and whether any number of them may
-pub record End : Type 0 where
-  pub part : Part
-  pub many : Bool
-
--- one thing
-abbrev pub one_of : Part → End
-one_of p = record { part = p; many = false }
-
--- one value of a shape
-abbrev pub one_shape : ℕ → End
-one_shape s = one_of (of_shape s)
-
-abbrev pub leaf_end : Option End → Path → Option End
-leaf_end o [] = o
-leaf_end o (k ∷ p) = None
-
--- the ends of a flattened shape
-abbrev pub FlatLeaf : Type 0
-FlatLeaf = Option Definition → Choice → Path → Option End
-
-abbrev pub leaf_field : FlatLeaf → Registry → Bool → Choice → Field → Path → Option End
-leaf_field inner g whole c f p = cond (in_parts whole f (is_end p)) (inner (definition_at g f.shape) c p) (leaf_end (Some (one_shape f.shape)) p)
-
-abbrev pub leaf_found : FlatLeaf → Registry → Bool → Choice → Option Field → Path → Option End
-leaf_found inner g whole c None p = None
-leaf_found inner g whole c (Some f) p = leaf_field inner g whole c f p
-
-abbrev pub leaf_in : FlatLeaf → Registry → Bool → Choice → List Field → Path → Option End
-leaf_in inner g whole c fs [] = None
-leaf_in inner g whole c fs (k ∷ p) = leaf_found inner g whole (below k c) (slice_get fs k) p
-
--- Within so many layers. No shape can be flattened yet.
-abbrev pub leaf_flat : Registry → Bool → ℕ → FlatLeaf
-leaf_flat g whole zero d c p = None
-leaf_flat g whole (suc n) d c p = None
-
--- where the paths of an object end
-abbrev pub leaf_at : Registry → Choice → Layout → Path → Option End
-leaf_at g c l p = leaf_in (leaf_flat g l.whole (length g)) g l.whole c l.fields p
-
--- the steps to the parts of a flattened shape
-abbrev pub FlatSteps : Type 0
-FlatSteps = Option Definition → Path → List Step
-
-abbrev pub steps_found : FlatSteps → Registry → Option Field → Path → List Step
-steps_found inner g None p = []
-steps_found inner g (Some f) p = field_step f.name ∷ inner (definition_at g f.shape) p
-
-abbrev pub steps_in : FlatSteps → Registry → List Field → Path → List Step
-steps_in inner g fs [] = []
-steps_in inner g fs (k ∷ p) = steps_found inner g (slice_get fs k) p
-
--- Within so many layers. No shape can be flattened yet.
-abbrev pub flat_steps : Registry → ℕ → FlatSteps
-flat_steps g zero d p = []
-flat_steps g (suc n) d p = []
-
--- a path of places, as steps by the declared names
-abbrev pub steps_at : Registry → Layout → Path → List Step
-steps_at g l p = steps_in (flat_steps g (length g)) g l.fields p
-
+-- something stands there
 abbrev pub is_filled : {A : Type 0} → List (At A) → Bool
 is_filled [] = false
 is_filled (x ∷ xs) = true
@@ -209,4 +149,4 @@ gathered g c l shape s path input = gathered_trees g c l shape s path input >>= 
 
 -- a struct of this shape, under a choice of variants
 abbrev pub struct_at : Registry → ReadsEnd → Choice → Bool → Layout → ℕ → Reads Tree
-struct_at g read c deny l shape = object_at (field_at (leaf_at g c l) (steps_at g l) (plan_of g c deny l) read) nothing_got (gathered g c l shape)
+struct_at g read c deny l shape = object_at (field_at (leaf_at g c l) (steps_at g c l) (plan_of g c deny l) read) nothing_got (gathered g c l shape)

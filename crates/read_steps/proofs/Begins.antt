@@ -132,12 +132,12 @@ module _ (t : Terms) (e : Event) (s : ShapeId) (d : StructShape) (fs : Frames) (
   pub struct_is : definition_at t.setting.registry s.0 ≡ Some (struct_shape d) → is_tuple d.kind ≡ false → begin t (suc n) s.0 from_events fs before e ≡ begin_object t (struct_begun_at t s n) fs e
   struct_is is kind = by_definition (definition_at t.setting.registry s.0) is
     where
-      by_kind : (b : Bool) → b ≡ false → begin_struct t s.0 d n b fs e ≡ begin_object t (record { shape = s.0; deny = d.deny; layout = record { fields = d.fields; whole = false }; depth = n; got = record { count = 0; values = [] } }) fs e
+      by_kind : (b : Bool) → b ≡ false → begin_struct t s.0 d n b fs e ≡ begin_object t (record { shape = s.0; deny = d.deny; layout = record { fields = d.fields; whole = false }; choice = []; depth = n; got = record { count = 0; values = [] } }) fs e
       by_kind true same = absurd cc
       by_kind false same = refl
 
       by_definition : (o : Option Definition) → o ≡ Some (struct_shape d)
-          → begin_as t (begin t n) n s.0 from_events o fs before e ≡ begin_object t (record { shape = s.0; deny = denies_in o; layout = record { fields = fields_in o; whole = false }; depth = n; got = record { count = 0; values = [] } }) fs e
+          → begin_as t (begin t n) n s.0 from_events o fs before e ≡ begin_object t (record { shape = s.0; deny = denies_in o; layout = record { fields = fields_in o; whole = false }; choice = []; depth = n; got = record { count = 0; values = [] } }) fs e
       by_definition o same = rw same (by_kind (is_tuple d.kind) kind)
 
 -- whether there are fields, by the first of them

@@ -8,7 +8,8 @@ use Rattle.semantics.specs.Keys.{leads}
 use Rattle.semantics.specs.Registry.{IsRegistry}
 use Rattle.semantics.specs.Reading.{source_of}
 use Rattle.laws_reading.specs.Input.{refused, unexpected}
-use Rattle.laws_reading.specs.Structs.{one_shape, taken_span}
+use Rattle.semantics.specs.Ends.{one_shape}
+use Rattle.laws_reading.specs.Structs.{taken_span}
 use Rattle.laws_reading.specs.Values.{Terms}
 use Rattle.laws_machine.specs.Frames.{object, field, Frames, path}
 use Rattle.laws_machine.specs.Frames as machine

@@ -55,6 +55,7 @@ struct_of t p = record {
   shape = p.shape.0;
   deny = denies_at t.setting.registry p.shape.0;
   layout = record { fields = fields_at t.setting.registry p.shape.0; whole = false };
+  choice = [];
   depth = p.depth;
   got = got_of p.filled.items;
 }
@@ -99,6 +100,7 @@ struct_begun_at t s n = record {
   shape = s.0;
   deny = denies_at t.setting.registry s.0;
   layout = record { fields = fields_at t.setting.registry s.0; whole = false };
+  choice = [];
   depth = n;
   got = nothing_got;
 }
