@@ -30,7 +30,7 @@ module _ (terms : Terms) (s : ℕ) (last : Span) (es : List Event) (ending : End
   caused f (too_deep_at span path is x) = inr (subst Own (sym is) (refl, x))
   caused f (unexpected_at span path is x) = inr (subst Own (sym is) (none, x))
   caused f (unset_at kind span path is x) =
-      inr (subst Own (sym is) (unset_cause kind span path (of_setter x.cut.due.shape kind terms.setting.borrow x.type x.value x.unset) x))
+      inr (subst Own (sym is) (unset_cause kind span path (of_setter x.shape kind terms.setting.borrow x.type x.value x.unset) x))
   caused f (missing_at name shape span path is x) = inr (subst Own (sym is) (none, x))
   caused f (other_length_at shape wanted got span path is x) = inr (subst Own (sym is) (none, x))
   caused f (too_many_at shape count span path is x) = inr (subst Own (sym is) (none, x))

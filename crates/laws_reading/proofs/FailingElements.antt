@@ -6,7 +6,7 @@ use Rattle.semantics.specs.Shapes.{is_tuple, Field, StructShape, struct_shape, d
 use Rattle.semantics.specs.Events.{Span, Note, of_sequence, ContainerKind, Event, stop}
 use Rattle.semantics.specs.Faults.{Step, index_step, too_many_elements, reflect, Fault, Ending}
 use Rattle.semantics.specs.Runs.{Run}
-use Rattle.semantics.specs.Reading.{Source, from_events, read}
+use Rattle.semantics.specs.Reading.{of_shape, Source, from_events, read}
 use Rattle.semantics.specs.Causes.{last_span, OnFirst, ends_sequence, item_part, enters_element, Stands, in_sequence, of_items, another_item}
 use Rattle.semantics.specs.Recoding.{ended_at}
 use Rattle.laws_reading.specs.Input.{Input, feed, ◌>>=◌, turned, turning}
@@ -41,7 +41,7 @@ module _ (terms : Terms) (n s : ℕ) (source : Source) (d : StructShape)
   abbrev whole : List Tree × Input → Result (Tree × Input) Fault
   whole = tuple_end terms.setting.registry (elements terms n s source d defined tuple) path
 
-  stands_in : (rs : List Run) → Stands terms.setting.registry s (items_so_far k m rs)
+  stands_in : (rs : List Run) → Stands terms.setting.registry (of_shape s) (items_so_far k m rs)
   stands_in rs = in_sequence (by_sequence terms n s source d defined tuple) rs (record { container = k; note = m; is = refl })
 
   -- the rest fails within so many turns

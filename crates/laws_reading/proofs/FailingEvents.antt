@@ -4,7 +4,7 @@ use Rattle.semantics.specs.Shapes.{Registry, definition_at}
 use Rattle.semantics.specs.Events.{Span, Event, span_of}
 use Rattle.semantics.specs.Faults.{Step, unexpected_token, Fault, Ending}
 use Rattle.semantics.specs.Runs.{Run}
-use Rattle.semantics.specs.Reading.{Source, read}
+use Rattle.semantics.specs.Reading.{of_shape, Source, read}
 use Rattle.semantics.specs.Causes.{IsOpen, last_span, Stands, before_all, stands_for_part, Cut, TakesNo}
 use Rattle.semantics.specs.Recoding.{ended_at}
 use Rattle.laws_reading.specs.Input.{refused_at}
@@ -14,7 +14,7 @@ use Rattle.laws_reading.proofs.Errors.{err_is}
 use Rattle.laws_reading.proofs.Open.{nothing_open}
 
 -- the part itself is due, of which the events in front came
-abbrev pub cut_here : (g : Registry) (n s : ℕ) (path : List Step) (source : Source) (front rest : List Event) → Stands g s front → Cut g (part_of s (suc n) path source) (front ++ rest)
+abbrev pub cut_here : (g : Registry) (n s : ℕ) (path : List Step) (source : Source) (front rest : List Event) → Stands g (of_shape s) front → Cut g (part_of s (suc n) path source) (front ++ rest)
 cut_here g n s path source front rest stands = record {
   front = front;
   rest = rest;
@@ -26,7 +26,7 @@ cut_here g n s path source front rest stands = record {
 
 module _ (terms : Terms) (n s : ℕ) (path : List Step) (source : Source) (last : Span) (ending : Ending) (f : Fault) where
   -- an event that the part doesn't take, behind those that came of it
-  pub unexpected_here : (front : List Event) (e : Event) (rest : List Event) → f ≡ fault unexpected_token (span_of e) path → Stands terms.setting.registry s front
+  pub unexpected_here : (front : List Event) (e : Event) (rest : List Event) → f ≡ fault unexpected_token (span_of e) path → Stands terms.setting.registry (of_shape s) front
       → TakesNo terms.setting (part_of s (suc n) path source) front e → Cause terms (part_of s (suc n) path source) last (front ++ (e ∷ rest)) ending f
   unexpected_here front e rest is stands takes = unexpected_at (span_of e) path is (record {
     cut = cut_here terms.setting.registry n s path source front (e ∷ rest) stands;

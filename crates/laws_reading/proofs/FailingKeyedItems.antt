@@ -6,7 +6,7 @@ use Rattle.semantics.specs.Shapes.{is_tuple, Field, StructShape, struct_shape, d
 use Rattle.semantics.specs.Events.{Span, Note, Key, key_note, scalar, key, tag, of_struct, of_sequence, object_kind, array_kind, Event, leaf, start, stop, span_of}
 use Rattle.semantics.specs.Faults.{Step, index_step, unexpected_token, too_many_elements, reflect, Fault, Ending}
 use Rattle.semantics.specs.Runs.{one, group, tagged, inside_events, Entry, entries_events}
-use Rattle.semantics.specs.Reading.{Source, from_events, read_elements, entry_runs, read}
+use Rattle.semantics.specs.Reading.{of_shape, Source, from_events, read_elements, entry_runs, read}
 use Rattle.semantics.specs.Causes.{IsOpen, last_span, item_part, enters_entry, Stands, in_object, TakesNo, of_entries, another_entry}
 use Rattle.semantics.specs.Recoding.{ended_at}
 use Rattle.laws_reading.specs.Input.{Input, feed, ◌>>=◌, turned, turning}
@@ -42,7 +42,7 @@ module _ (terms : Terms) (n s : ℕ) (source : Source) (d : StructShape)
   abbrev whole : List Tree × Input → Result (Tree × Input) Fault
   whole = tuple_end terms.setting.registry (elements terms n s source d defined tuple) path
 
-  stands_in : (xs : List Entry) → Stands terms.setting.registry s (front_events xs)
+  stands_in : (xs : List Entry) → Stands terms.setting.registry (of_shape s) (front_events xs)
   stands_in xs = in_object (by_object terms n s source d defined tuple) xs (record { container = object_kind; note = m; is = refl })
 
   -- no run of the tuple is read that goes on with what is neither a key nor the end

@@ -7,7 +7,7 @@ use Rattle.semantics.specs.Events.{Span, Note, Scalar, Key, key_note, scalar, ke
 use Rattle.semantics.specs.Faults.{Step, unexpected_token, duplicate_field, Fault, Ending}
 use Rattle.semantics.specs.Runs.{Inside, Run, one, group, tagged, run_events, Entry, entries, entries_events}
 use Rattle.semantics.specs.Setters.{Outcome, set_scalar}
-use Rattle.semantics.specs.Reading.{Source, key_text, is_argument, is_key, arguments, read_node, read_scalar, read_shape, read}
+use Rattle.semantics.specs.Reading.{of_shape, Source, key_text, is_argument, is_key, arguments, read_node, read_scalar, read_shape, read}
 use Rattle.semantics.specs.Causes.{last_span, Begun, stands_for_part, takes_object, passes, Stands, before_all, in_object, in_passed, SetsHere, at_once, as_argument, same_argument}
 use Rattle.semantics.specs.Recoding.{ended_at}
 use Rattle.laws_reading.specs.Input.{Input, feed, ◌>>=◌, unexpected}
@@ -85,7 +85,7 @@ module _ (terms : Terms) (n s : ℕ) (source : Source) (t : ScalarType) (is : de
     Why es = Cause terms (part_of s (suc n) path source) last es ending f
 
     -- a scalar that doesn't set the target, at the beginning or as the argument
-    unset_fails : (front : List Event) → Stands g s front → SetsHere front → (x : Scalar) (m : Note) (rest : List Event) → set_at target x path (feed rest ending m.span) ≡ Err f
+    unset_fails : (front : List Event) → Stands g (of_shape s) front → SetsHere front → (x : Scalar) (m : Note) (rest : List Event) → set_at target x path (feed rest ending m.span) ≡ Err f
         → Why (front ++ (leaf (scalar x m) ∷ rest))
     unset_fails front stands here x m rest told = by_outcome (set_scalar terms.setting.borrow s t x) refl told
       where
@@ -93,6 +93,8 @@ module _ (terms : Terms) (n s : ℕ) (source : Source) (t : ScalarType) (is : de
         by_outcome (Ok v) set told = absurd cc
         by_outcome (Err kind) unset told = unset_at kind m.span path (sym (err_is (fault kind m.span path) f told)) (record {
           cut = cut_here g n s path source front (leaf (scalar x m) ∷ rest) stands;
+          shape = s;
+          is_shape = refl;
           type = t;
           is_scalar = is;
           here = here;
@@ -127,7 +129,7 @@ module _ (terms : Terms) (n s : ℕ) (source : Source) (t : ScalarType) (is : de
               | inr z ↦ absurd (let no_fault = z.2 in cc)
             ]
 
-        behind_key : Stands g s (front ++ (leaf (key q) ∷ []))
+        behind_key : Stands g (of_shape s) (front ++ (leaf (key q) ∷ []))
         behind_key = in_passed object front more begun q (passed more q) [] refl nothing_open
 
         argument_fails : is_argument q ≡ true → (rest : List Event) → argument_at None target q path (feed rest ending (key_note q).span) ≡ Err f → After rest

@@ -6,7 +6,7 @@ use Rattle.semantics.specs.Shapes.{result_shape, definition_at}
 use Rattle.semantics.specs.Events.{Span, Note, Key, key_note, scalar, key, tag, of_struct, of_sequence, ContainerKind, Event, leaf, start, stop, span_of}
 use Rattle.semantics.specs.Faults.{Step, variant_step, unexpected_token, Fault, Ending}
 use Rattle.semantics.specs.Runs.{Inside, Run, one, group, tagged, inside_events, run_events, Entry, entries, entries_events}
-use Rattle.semantics.specs.Reading.{Source, from_events, by_outcome, read_object, read_result, read_shape, read}
+use Rattle.semantics.specs.Reading.{of_shape, Source, from_events, by_outcome, read_object, read_result, read_shape, read}
 use Rattle.semantics.specs.Causes.{last_span, Part, ok_side, err_side, outcome_part, enters_outcome, takes_object, stands_for_part, Stands, in_object, TakesNo}
 use Rattle.semantics.specs.Recoding.{ended_at}
 use Rattle.laws_reading.specs.Input.{feed}
@@ -46,7 +46,7 @@ module _ (terms : Terms) (n s i j : ℕ) (source : Source) (is : definition_at t
   abbrev front : ContainerKind → Note → List Entry → List Event
   front k m more = start of_struct k m ∷ entries_events more
 
-  stands_in : (k : ContainerKind) (m : Note) (more : List Entry) → Stands terms.setting.registry s (front k m more)
+  stands_in : (k : ContainerKind) (m : Note) (more : List Entry) → Stands terms.setting.registry (of_shape s) (front k m more)
   stands_in k m more = in_object (ap takes_object is) more (record { container = k; note = m; is = refl })
 
   -- no run of the result is read that goes on so

@@ -9,7 +9,7 @@ use Rattle.semantics.specs.Typed.{item_of as item_shape, length_of, has_length}
 use Rattle.semantics.specs.Events.{Span, Note, of_struct, of_sequence, ContainerKind, Event, leaf, start, stop, span_of}
 use Rattle.semantics.specs.Faults.{Step, index_step, unexpected_token, array_length, reflect, Fault, Ending}
 use Rattle.semantics.specs.Runs.{Run, one, group, tagged}
-use Rattle.semantics.specs.Reading.{Source, from_events, read_sequence, read_items, read_as, read_shape, read}
+use Rattle.semantics.specs.Reading.{of_shape, Source, from_events, read_sequence, read_items, read_as, read_shape, read}
 use Rattle.semantics.specs.Causes.{last_span, Part, OnFirst, ends_sequence, IsListOf, length_in, has_room, item_part, enters_item, takes_sequence, stands_for_part, Stands, in_sequence, TakesNo, too_short, too_long}
 use Rattle.semantics.specs.Recoding.{ended_at}
 use Rattle.laws_reading.specs.Input.{Input, feed, ◌>>=◌, Reads, turned, turning}
@@ -53,14 +53,14 @@ module _ (terms : Terms) (n s i : ℕ) (len : Option ℕ) (source : Source) (is 
   abbrev Why : List Step → Span → List Event → Ending → Fault → Type 0
   Why path first es ending f = Cause terms (part path) first es ending f
 
-  is_list_of : IsListOf terms.setting.registry s i
+  is_list_of : IsListOf terms.setting.registry (of_shape s) i
   is_list_of = ap (option_and_then item_shape) is ∙ by_len len
     where
       by_len : (o : Option ℕ) → item_shape (sequence_shape i o) ≡ Some i
       by_len None = refl
       by_len (Some k) = refl
 
-  has_len : length_in terms.setting.registry s ≡ len
+  has_len : length_in terms.setting.registry (of_shape s) ≡ len
   has_len = ap (option_and_then length_of) is ∙ by_len len
     where
       by_len : (o : Option ℕ) → length_of (sequence_shape i o) ≡ o
@@ -74,7 +74,7 @@ module _ (terms : Terms) (n s i : ℕ) (len : Option ℕ) (source : Source) (is 
       by_len None = refl
       by_len (Some k) = refl
 
-  stands_in : (k : ContainerKind) (m : Note) (rs : List Run) → Stands terms.setting.registry s (items_so_far k m rs)
+  stands_in : (k : ContainerKind) (m : Note) (rs : List Run) → Stands terms.setting.registry (of_shape s) (items_so_far k m rs)
   stands_in k m rs = in_sequence (ap takes_sequence is ∙ by_len len) rs (record { container = k; note = m; is = refl })
     where
       by_len : (o : Option ℕ) → takes_sequence (Some (sequence_shape i o)) ≡ true

@@ -1,23 +1,22 @@
 -- What was read stands in its place, once, and which field lacks an entry.
-use Rattle.std.proofs.Common.{◌≡◌, inl, inr, ℕ, zero, suc, ◌+◌, List, [], ◌∷◌, ◌++◌, length, slice_get, Option, Some, None, Err, Bool, true, false, cond, not, ◌&&◌, ◌||◌, ◌==◌, refl, sym, ap, ◌∙◌, subst, arith}
+use Rattle.std.proofs.Common.{◌≡◌, ◌⊎◌, inl, inr, ℕ, zero, suc, ◌+◌, List, [], ◌∷◌, ◌++◌, length, slice_get, Option, Some, None, Err, Bool, true, false, cond, not, ◌&&◌, ◌||◌, refl, sym, ap, ◌∙◌, subst, arith}
 use Rattle.std.specs.Prelude.{⊤}
-use Rattle.std.specs.List.{cons_option, AllByRecursion as Every}
-use Rattle.std.proofs.lemmas.List.{append-nil}
-use Rattle.std.proofs.lemmas.List.Elements.{filter_map-append}
+use Rattle.std.specs.List.{AllByRecursion as Every}
 use Rattle.semantics.specs.Trees.{Tree}
 use Rattle.semantics.specs.Shapes.{Field, Definition, Registry, definition_at}
 use Rattle.semantics.specs.Events.{key_note}
-use Rattle.semantics.specs.Faults.{field_step, missing_field, Fault}
+use Rattle.semantics.specs.Faults.{missing_field, Fault}
 use Rattle.semantics.specs.Runs.{Entry}
-use Rattle.semantics.specs.Places.{Path, At, rest_at, below, is_end, has_whole, Choice}
+use Rattle.semantics.specs.Places.{Path, At, below, all_below, is_end, has_whole, Choice}
 use Rattle.semantics.specs.Keys.{Layout}
-use Rattle.semantics.specs.Reading.{PartReader, parts_by, fill, in_parts}
-use Rattle.laws_reading.specs.Input.{◌>>=◌, fault_at}
-use Rattle.semantics.specs.Ends.{End, one_shape, leaf_end, leaf_found, leaf_flat, leaf_at, flat_steps, steps_found, steps_at}
-use Rattle.laws_reading.specs.Structs.{Told, is_filled, Spot, or_missing, inner_spot, gather_own, gather_flat, gather_field, gather_fields, with_tree, is_taken}
+use Rattle.semantics.specs.Reading.{Parts, PartReader, parts_by, fill, in_parts}
+use Rattle.semantics.specs.Ends.{End, one_shape, leaf_end, leaf_found, leaf_flat, leaf_at, Owner, Gap, own_gap, gap_found, gap_flat}
+use Rattle.laws_reading.specs.Input.{Input, ◌>>=◌, fault_at}
+use Rattle.laws_reading.specs.Structs.{Told, Spot, or_missing, inner_spot, gather_own, gather_flat, gather_field, gather_fields, with_tree}
 use Rattle.laws.proofs.Built.{BuiltField}
 use Rattle.laws_reading.proofs.Errors.{bind_err, err_is}
-use Rattle.laws_reading.proofs.Ends.{Kept, placed_at}
+use Rattle.laws_reading.proofs.Ends.{Ends, Kept, kept_as, kept_below, end_is, Covers, covers_next, covers_first}
+use Rattle.laws_reading.proofs.Apart.{AtMostOne, IsMany, Apart}
 use Rattle.laws_reading.proofs.Taken.{Among}
 
 -- the keys of what was read stood where its entries say
@@ -53,123 +52,99 @@ origin_of ends rd y (x ∷ xs) (b ∷ ys) (z ∷ before) after is (first, more) 
     let t = origin_of ends rd y xs ys before after rest more s.1 in
     record { item = t.item; among = record { before = x ∷ t.among.before; after = t.among.after; is = ap (λ l. x ∷ l) t.among.is }; path = t.path; span = t.span }
 
--- where a path of today's forms ends
-pub record IsField (g : Registry) (c : Choice) (l : Layout) (p : Path) (s : End) : Type 0 where
-  pub place : ℕ
-  pub field : Field
-  pub path : p ≡ place ∷ []
-  pub here : slice_get l.fields place ≡ Some field
-  pub end : s ≡ one_shape field.shape
-  pub steps : steps_at g c l p ≡ field_step field.name ∷ []
-
 flat_none : (g : Registry) (whole : Bool) (n : ℕ) (d : Option Definition) (c : Choice) (p : Path) → leaf_flat g whole n d c p ≡ None
 flat_none g whole zero d c p = refl
 flat_none g whole (suc n) d c p = refl
 
-flat_nowhere : (g : Registry) (n : ℕ) (d : Option Definition) (c : Choice) (p : Path) → flat_steps g n d c p ≡ []
-flat_nowhere g zero d c p = refl
-flat_nowhere g (suc n) d c p = refl
-
-pub leaf_is : (g : Registry) (c : Choice) (l : Layout) (p : Path) (s : End) → leaf_at g c l p ≡ Some s → IsField g c l p s
-leaf_is g c l [] s e = absurd cc
-leaf_is g c l (k ∷ p) s e = by_field (slice_get l.fields k) refl e
+-- what stands at the end of a path is one value of a shape: nothing else does yet
+pub leaf_shape : (g : Registry) (c : Choice) (l : Layout) (p : Path) (e : End) → leaf_at g c l p ≡ Some e → (s : ℕ) × (e ≡ one_shape s)
+leaf_shape g c l [] e is = absurd cc
+leaf_shape g c l (k ∷ p) e is = by_field (slice_get l.fields k) is
   where
-    by_end : (f : Field) → slice_get l.fields k ≡ Some f → (p' : Path) → p ≡ p' → leaf_end (Some (one_shape f.shape)) p' ≡ Some s → IsField g c l (k ∷ p) s
-    by_end f is [] at e = record {
-      place = k;
-      field = f;
-      path = ap (λ q. k ∷ q) at;
-      here = is;
-      end = (let same : one_shape f.shape ≡ s = cc in sym same);
-      steps = ap (λ q. steps_at g c l (k ∷ q)) at ∙ ap (λ o. steps_found (flat_steps g (length g)) g (below k c) o []) is ∙ ap (λ z. field_step f.name ∷ z) (flat_nowhere g (length g) (definition_at g f.shape) (below k c) []);
-    }
-    by_end f is (j ∷ p') at e = absurd cc
-
-    by_field : (o : Option Field) → slice_get l.fields k ≡ o → leaf_found (leaf_flat g l.whole (length g)) g l.whole (below k c) o p ≡ Some s → IsField g c l (k ∷ p) s
-    by_field None is e = absurd cc
-    by_field (Some f) is e = by_test (in_parts l.whole f (is_end p)) e
+    by_field : (o : Option Field) → leaf_found (leaf_flat g l.whole (length g)) g l.whole (below k c) o p ≡ Some e → (s : ℕ) × (e ≡ one_shape s)
+    by_field None is = absurd cc
+    by_field (Some f) is = by_test (in_parts l.whole f (is_end p)) is
       where
-        by_test : (b : Bool) → cond b (leaf_flat g l.whole (length g) (definition_at g f.shape) (below k c) p) (leaf_end (Some (one_shape f.shape)) p) ≡ Some s → IsField g c l (k ∷ p) s
-        by_test true e = let none = flat_none g l.whole (length g) (definition_at g f.shape) (below k c) p in absurd cc
-        by_test false e = by_end f is p refl e
+        by_test : (b : Bool) → cond b (leaf_flat g l.whole (length g) (definition_at g f.shape) (below k c) p) (leaf_end (Some (one_shape f.shape)) p) ≡ Some e → (s : ℕ) × (e ≡ one_shape s)
+        by_test true is = let none = flat_none g l.whole (length g) (definition_at g f.shape) (below k c) p in absurd cc
+        by_test false is =
+            let same : one_shape f.shape ≡ e = (let found = end_is (Some (one_shape f.shape)) p e is in cc) in
+            (f.shape, sym same)
 
--- at most one thing
-abbrev pub AtMostOne : {A : Type 0} → List A → Type 0
-AtMostOne [] = ⊤
-AtMostOne (x ∷ []) = ⊤
-AtMostOne (x ∷ y ∷ xs) = ⊥
-
--- no two things of one place were read
-abbrev pub Apart : List (At Told) → Type 0
-Apart xs = (k : ℕ) → AtMostOne (below k xs)
-
-none_filled : {A : Type 0} (xs : List (At A)) → is_filled xs ≡ false → xs ≡ []
-none_filled [] e = refl
-none_filled (x ∷ xs) e = absurd cc
-
-or_false : (a b : Bool) → a || b ≡ false → b ≡ false
-or_false true b e = absurd cc
-or_false false b e = e
-
-pub apart_more : (k : ℕ) (xs : List (At Told)) (y : Told) → Apart xs → is_taken (k ∷ []) xs ≡ false → Apart (xs ++ (placed_at (k ∷ []) y ∷ []))
-apart_more k xs y apart free j =
-    subst AtMostOne (sym (filter_map-append (rest_at j) xs (placed_at (k ∷ []) y ∷ []))) (by_test (k == j) refl)
-  where
-    by_test : (b : Bool) → (k == j) ≡ b → AtMostOne (below j xs ++ cons_option (cond b (Some (placed_at [] y)) None) [])
-    by_test false is = subst AtMostOne (sym (append-nil (below j xs))) (apart j)
-    by_test true is =
-        let same : k ≡ j = grind (arith, is) in
-        let empty : below k xs ≡ [] = none_filled (below k xs) (or_false (has_whole (below k xs)) (is_filled (below k xs)) free) in
-        subst (λ l. AtMostOne (l ++ (placed_at [] y ∷ []))) (sym (ap (λ i. below i xs) (sym same) ∙ empty)) tt
-
--- a field with no entry and no fill
-pub record Lacks (g : Registry) (fs : List Field) (k : ℕ) (xs : List (At Told)) (spot : Spot) (f : Fault) : Type 0 where
+-- A field with no entry and no fill: the one of this place, or one in the flattened shape below it.
+pub record Lacks (g : Registry) (n : ℕ) (c : Choice) (owner : Owner) (fs : List Field) (k : ℕ) (xs : List (At Told)) (input : Input) (f : Fault) : Type 0 where
   pub place : ℕ
-  pub field : Field
-  pub here : slice_get fs place ≡ Some field
-  pub none_there : below (k + place) xs ≡ []
-  pub no_fill : fill g field ≡ None
-  pub is : f ≡ fault_at (missing_field field.name spot.shape) spot.path spot.input
+  pub way : Path
+  pub gap : Gap
+  pub here : gap_found (gap_flat g n) g (below (k + place) c) owner (slice_get fs place) way ≡ Some gap
+  pub none_there : all_below way (below (k + place) xs) ≡ []
+  pub no_fill : fill g gap.field ≡ None
+  pub is : f ≡ fault_at (missing_field gap.field.name gap.owner.shape) gap.owner.path input
 
-module _ (g : Registry) (whole : Bool) (c : Choice) (spot : Spot) where
-  own_lacks : (field : Field) (fs : List Field) (k : ℕ) (xs : List (At Told)) (f : Fault) (ys : List (At Told)) → below k xs ≡ ys → AtMostOne ys
-      → gather_own g field spot ys ≡ Err f → Lacks g (field ∷ fs) k xs spot f
-  own_lacks field fs k xs f [] there single e = by_fill (fill g field) refl e
+module _ {A : Type 0} (g : Registry) (rd : Parts A) (whole : Bool) (c : Choice) (owner : Owner) (input : Input) where
+  abbrev spot : Spot
+  spot = record { shape = owner.shape; path = owner.path; input = input }
+
+  -- where two things stand at the place of one value, they aren't apart
+  two_never : (ends : Ends) (k : ℕ) (f : Field) → ((p : Path) → ends (k ∷ p) ≡ leaf_end (Some (one_shape f.shape)) p) → (xs : List (At A)) (ys : List (At Told)) (y z : At Told)
+      → Kept (leaf_end (Some (one_shape f.shape))) rd xs (y ∷ z ∷ ys) → IsMany ends (k ∷ []) ⊎ AtMostOne (y ∷ z ∷ ys) → ⊥
+  two_never ends k f same xs ys y z h (inr one) = one
+  two_never ends k f same xs ys y z h (inl (e, is, many)) = let one : one_shape f.shape ≡ e = (let there : Some (one_shape f.shape) ≡ Some e = sym (same []) ∙ is in cc) in let single : true ≡ false = sym many ∙ ap (λ (x : End). x.many) (sym one) in cc
+
+  whole_first : (f : Field) (xs : List (At A)) (ys : List (At Told)) (y : At Told) → Kept (leaf_end (Some (one_shape f.shape))) rd xs (y ∷ ys) → has_whole (y ∷ ys) ≡ true
+  whole_first f [] ys y h = absurd h
+  whole_first f (x ∷ xs) ys y ((e, end, reads, path), more) = by_path x.path end path
     where
-      by_fill : (o : Option Tree) → fill g field ≡ o → or_missing field spot o ≡ Err f → Lacks g (field ∷ fs) k xs spot f
-      by_fill None none e = record {
-        place = 0;
-        field = field;
-        here = refl;
-        none_there = ap (λ i. below i xs) (omega arith) ∙ there;
-        no_fill = none;
-        is = sym (err_is (fault_at (missing_field field.name spot.shape) spot.path spot.input) f e);
-      }
-      by_fill (Some v) is e = absurd cc
-  own_lacks field fs k xs f (y ∷ []) there single e = absurd cc
-  own_lacks field fs k xs f (y ∷ z ∷ ys) there single e = absurd single
+      by_path : (p : Path) → leaf_end (Some (one_shape f.shape)) p ≡ Some e → p ≡ y.path → has_whole (y ∷ ys) ≡ true
+      by_path [] end path = ap (λ q. is_end q || has_whole ys) (sym path)
+      by_path (k ∷ p) end path = absurd cc
 
-  later_lacks : (field : Field) (fs : List Field) (k : ℕ) (xs : List (At Told)) (f : Fault) → Lacks g fs (suc k) xs spot f → Lacks g (field ∷ fs) k xs spot f
-  later_lacks field fs k xs f m = record {
+  module _ (n k : ℕ) (field : Field) (fs : List Field) (ends : Ends) (all : List (At Told)) (apart : Apart ends all) (own : field.flattened ≡ false)
+      (same : (p : Path) → ends (k ∷ p) ≡ leaf_end (Some (one_shape field.shape)) p) (f : Fault) where
+    own_lacks : (xs : List (At A)) (ys : List (At Told)) → below k all ≡ ys → Kept (leaf_end (Some (one_shape field.shape))) rd xs ys → gather_own g field spot ys ≡ Err f → Lacks g n c owner (field ∷ fs) k all input f
+    own_lacks xs [] there h e = by_fill (fill g field) refl e
+      where
+        by_fill : (o : Option Tree) → fill g field ≡ o → or_missing field spot o ≡ Err f → Lacks g n c owner (field ∷ fs) k all input f
+        by_fill None none e = record {
+          place = 0;
+          way = [];
+          gap = record { field = field; owner = owner };
+          here = ap (λ b. cond b (gap_flat g n (definition_at g field.shape) (below (k + 0) c) field owner []) (own_gap field owner [])) own;
+          none_there = ap (λ i. below i all) (omega arith) ∙ there;
+          no_fill = none;
+          is = sym (err_is (fault_at (missing_field field.name owner.shape) owner.path input) f e);
+        }
+        by_fill (Some v) is e = absurd cc
+    own_lacks xs (y ∷ []) there h e = absurd cc
+    own_lacks xs (y ∷ z ∷ ys) there h e =
+        absurd (two_never ends k field same xs ys y z h
+        (subst (λ l. IsMany ends (k ∷ []) ⊎ AtMostOne l) there (apart (k ∷ []) (ap has_whole there ∙ whole_first field xs (z ∷ ys) y h))))
+
+  later_lacks : (n : ℕ) (field : Field) (fs : List Field) (k : ℕ) (xs : List (At Told)) (f : Fault) → Lacks g n c owner fs (suc k) xs input f → Lacks g n c owner (field ∷ fs) k xs input f
+  later_lacks n field fs k xs f m = record {
     place = suc m.place;
-    field = m.field;
-    here = m.here;
-    none_there = ap (λ i. below i xs) (omega arith) ∙ m.none_there;
+    way = m.way;
+    gap = m.gap;
+    here = ap (λ i. gap_found (gap_flat g n) g (below i c) owner (slice_get fs m.place) m.way) (omega arith) ∙ m.here;
+    none_there = ap (λ i. all_below m.way (below i xs)) (omega arith) ∙ m.none_there;
     no_fill = m.no_fill;
     is = m.is;
   }
 
-  pub gather_lacks : (n k : ℕ) (fs : List Field) (xs : List (At Told)) (f : Fault) → Every BuiltField fs → Apart xs
-      → gather_fields (gather_flat g whole n) g whole c spot k fs xs ≡ Err f → Lacks g fs k xs spot f
-  gather_lacks n k [] xs f fine apart e = absurd cc
-  gather_lacks n k (field ∷ fs) xs f (here, fine) apart e =
-      elim (bind_err (gather_field (gather_flat g whole n) g whole (below k c) field spot (below k xs)) (λ v. gather_fields (gather_flat g whole n) g whole c spot (suc k) fs xs >>= with_tree v) f e) [
+  pub gather_lacks : (n k : ℕ) (fs : List Field) (ends : Ends) → Covers g whole (leaf_flat g whole n) c ends k fs → (xs : List (At A)) (ys : List (At Told)) → Kept ends rd xs ys → Apart ends ys → (f : Fault) → Every BuiltField fs
+      → gather_fields (gather_flat g whole n) g whole c spot k fs ys ≡ Err f → Lacks g n c owner fs k ys input f
+  gather_lacks n k [] ends covers xs ys h apart f fine e = absurd cc
+  gather_lacks n k (field ∷ fs) ends covers xs ys h apart f (here, fine) e =
+      elim (bind_err (gather_field (gather_flat g whole n) g whole (below k c) field spot (below k ys)) (λ v. gather_fields (gather_flat g whole n) g whole c spot (suc k) fs ys >>= with_tree v) f e) [
         | inl x ↦
-            own_lacks field fs k xs f (below k xs) refl (apart k)
-            (sym (ap (λ b. cond (b && not (whole && has_whole (below k xs))) (gather_flat g whole n (definition_at g field.shape) (below k c) (inner_spot field spot) (below k xs)) (gather_own g field spot (below k xs))) here.flattened) ∙ x)
+            let same : (p : Path) → ends (k ∷ p) ≡ leaf_end (Some (one_shape field.shape)) p = (λ p. covers_first g whole (leaf_flat g whole n) c ends k field fs covers p
+            ∙ ap (λ b. cond (b && not (whole && is_end p)) (leaf_flat g whole n (definition_at g field.shape) (below k c) p) (leaf_end (Some (one_shape field.shape)) p)) here.flattened) in
+            own_lacks n k field fs ends ys apart here.flattened same f (below k xs) (below k ys) refl
+            (kept_as (λ p. ends (k ∷ p)) rd (leaf_end (Some (one_shape field.shape))) same (below k xs) (below k ys) (kept_below ends rd k xs ys h))
+            (sym (ap (λ b. cond (b && not (whole && has_whole (below k ys))) (gather_flat g whole n (definition_at g field.shape) (below k c) (inner_spot field spot) (below k ys)) (gather_own g field spot (below k ys))) here.flattened) ∙ x)
         | inr z ↦
-            elim (bind_err (gather_fields (gather_flat g whole n) g whole c spot (suc k) fs xs) (with_tree z.0) f z.2) [
-              | inl y ↦ later_lacks field fs k xs f (gather_lacks n (suc k) fs xs f fine apart y)
+            elim (bind_err (gather_fields (gather_flat g whole n) g whole c spot (suc k) fs ys) (with_tree z.0) f z.2) [
+              | inl y ↦ later_lacks n field fs k ys f (gather_lacks n (suc k) fs ends (covers_next g whole (leaf_flat g whole n) c ends k field fs covers) xs ys h apart f fine y)
               | inr w ↦ absurd (let no_fault = w.2 in cc)
             ]
       ]

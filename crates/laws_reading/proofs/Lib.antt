@@ -16,6 +16,7 @@ pub mod Open
 pub mod Stops
 pub mod Cuts
 pub mod Taken
+pub mod Apart
 pub mod Lacking
 pub mod Failing
 pub mod Unset

@@ -52,6 +52,8 @@ module _ (terms : Terms) (n : ℕ) (part inner : Part) (deep : part.depth ≡ su
   })
   lift ending f (unset_at kind span path is x) = unset_at kind span path is (record {
     cut = cut_in x.cut;
+    shape = x.shape;
+    is_shape = x.is_shape;
     type = x.type;
     is_scalar = x.is_scalar;
     here = x.here;
@@ -70,10 +72,12 @@ module _ (terms : Terms) (n : ℕ) (part inner : Part) (deep : part.depth ≡ su
     next = x.next;
     struct = x.struct;
     object = x.object;
+    number = x.number;
+    numbered = x.numbered;
     entries = x.entries;
     begun = x.begun;
-    place = x.place;
-    field = x.field;
+    way = x.way;
+    gap = x.gap;
     here = x.here;
     no_entry = x.no_entry;
     no_fill = x.no_fill;

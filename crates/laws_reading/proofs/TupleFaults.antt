@@ -7,7 +7,7 @@ use Rattle.semantics.specs.Typed.{tuple_of}
 use Rattle.semantics.specs.Events.{Span, Event, span_of}
 use Rattle.semantics.specs.Faults.{Step, missing_field, too_many_elements, reflect, Fault, Ending}
 use Rattle.semantics.specs.Runs.{Run}
-use Rattle.semantics.specs.Reading.{Source, fill, plain_layout, read_struct, read_object, read_tuple, read_shape, read}
+use Rattle.semantics.specs.Reading.{of_shape, Source, fill, plain_layout, read_struct, read_object, read_tuple, read_shape, read}
 use Rattle.semantics.specs.Causes.{last_span, IsTuple, stands_for_part, takes_object, takes_sequence, Stands, ItemsEnd, AnotherItem}
 use Rattle.laws_reading.specs.Input.{feed, ◌>>=◌}
 use Rattle.laws_reading.specs.Tuples.{Elements, or_missing, filled_from, as_tuple, tuple_end}
@@ -35,7 +35,7 @@ module _ (terms : Terms) (n s : ℕ) (source : Source) (d : StructShape)
   abbrev pub elements : Elements
   elements = record { shape = s; fields = d.fields }
 
-  pub is_a_tuple : IsTuple terms.setting.registry s d
+  pub is_a_tuple : IsTuple terms.setting.registry (of_shape s) d
   is_a_tuple = ap (option_and_then tuple_of) defined ∙ ap (λ b. cond b (Some d) None) tuple
 
   pub by_sequence : takes_sequence (definition_at terms.setting.registry s) ≡ true
@@ -52,7 +52,7 @@ module _ (terms : Terms) (n s : ℕ) (source : Source) (d : StructShape)
       ap (read_shape terms.setting (read terms.setting n) s source run) defined
       ∙ ap (λ b. cond b (read_tuple terms.setting.registry (read terms.setting n) d run) (read_object (read_struct terms.setting.registry (read terms.setting n) [] d.deny (plain_layout d)) run)) tuple
 
-  module _ (path : List Step) (first : Span) (ending : Ending) (f : Fault) (so_far : List Event) (stands : Stands terms.setting.registry s so_far) (e : Event) (es : List Event) where
+  module _ (path : List Step) (first : Span) (ending : Ending) (f : Fault) (so_far : List Event) (stands : Stands terms.setting.registry (of_shape s) so_far) (e : Event) (es : List Event) where
     pub too_many_fails : (span : Span) → AnotherItem so_far (length d.fields) (last_span first so_far) e span → f ≡ fault (reflect (too_many_elements s (length d.fields))) span path
         → Cause terms (part_of s (suc n) path source) first (so_far ++ (e ∷ es)) ending f
     too_many_fails span another told = too_many_at s (length d.fields) span path told (record {

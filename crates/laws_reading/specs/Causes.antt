@@ -4,7 +4,7 @@ use Rattle.semantics.specs.Registry.{IsRegistry}
 use Rattle.semantics.specs.Trees.{Tree}
 use Rattle.semantics.specs.Events.{Span, Event}
 use Rattle.semantics.specs.Faults.{Step, FaultKind, unexpected_token, missing_field, duplicate_field, array_length, too_many_elements, reflect, too_deep, Fault, Ending}
-use Rattle.semantics.specs.Reading.{Source, from_events}
+use Rattle.semantics.specs.Reading.{Source, from_events, of_shape}
 use Rattle.semantics.specs.Causes.{Part, IsTooDeep, IsUnexpected, IsUnset, IsMissing, IsLacking, IsTooMany, IsOtherLength, IsDuplicate}
 use Rattle.semantics.specs.Recoding.{RanOut, HasCauseFrom}
 use Rattle.laws_reading.specs.Input.{feed, Reads}
@@ -30,7 +30,7 @@ pub data Cause (terms : Terms) (part : Part) (last : Span) (events : List Event)
       → IsDuplicate terms.setting part events name first span path → Cause terms part last events ending f
 
 abbrev pub part_of : ℕ → ℕ → List Step → Source → Part
-part_of s n path source = record { shape = s; depth = n; path = path; source = source }
+part_of s n path source = record { what = of_shape s; depth = n; path = path; source = source }
 
 -- Each fault has its cause, where what reads has these terms.
 abbrev pub Fails : Terms → ℕ → ℕ → Source → Reads Tree → Type 0

@@ -1,5 +1,5 @@
 -- Structs: what is read behind each key is kept under the path of its field, and gathered at the end.
-use Rattle.std.specs.Prelude.{ℕ, zero, suc, List, [], ◌∷◌, ◌++◌, length, Option, Some, None, slice_get, Result, Ok, Bool, true, false, cond, not, ◌&&◌, ◌||◌}
+use Rattle.std.specs.Prelude.{ℕ, zero, suc, List, [], ◌∷◌, ◌++◌, length, Option, Some, None, Result, Ok, Bool, true, false, cond, not, ◌&&◌, ◌||◌}
 use Rattle.semantics.specs.Trees.{Tree, structure, Trees, no_trees, tree}
 use Rattle.semantics.specs.Shapes.{Field, Definition, Registry, definition_at}
 use Rattle.semantics.specs.Events.{Span, Key, key_note}

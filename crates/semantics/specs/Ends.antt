@@ -1,5 +1,5 @@
 -- Where the paths of an object end: what stands there, and by which steps one comes to it.
-use Rattle.std.specs.Prelude.{ℕ, zero, suc, List, [], ◌∷◌, length, Option, Some, None, slice_get, Bool, true, false, cond}
+use Rattle.std.specs.Prelude.{ℕ, zero, suc, List, [], ◌∷◌, length, Option, Some, None, slice_get, Bool, false, cond}
 use Rattle.semantics.specs.Shapes.{Field, Definition, Registry, definition_at}
 use Rattle.semantics.specs.Faults.{Step, field_step}
 use Rattle.semantics.specs.Places.{Path, below, is_end, Choice}
@@ -73,3 +73,45 @@ flat_steps g (suc n) d c p = []
 -- a path of places, as steps by the declared names
 abbrev pub steps_at : Registry → Choice → Layout → Path → List Step
 steps_at g c l p = steps_in (flat_steps g (length g)) g c l.fields p
+
+-- a struct whose fields are read, by the number of its shape and the way to it
+pub record Owner : Type 0 where
+  pub shape : ℕ
+  pub path : List Step
+
+-- a field that may have no entry, and the struct that has it
+pub record Gap : Type 0 where
+  pub field : Field
+  pub owner : Owner
+
+-- the field itself, at the end of its path
+abbrev pub own_gap : Field → Owner → Path → Option Gap
+own_gap f o [] = Some (record { field = f; owner = o })
+own_gap f o (k ∷ p) = None
+
+-- what may be absent in a flattened shape, whose field and owner are these
+abbrev pub FlatGap : Type 0
+FlatGap = Option Definition → Choice → Field → Owner → Path → Option Gap
+
+-- of a field: the field itself, or what may be absent in the flattened shape below it
+abbrev pub gap_field : FlatGap → Registry → Choice → Field → Owner → Path → Option Gap
+gap_field inner g c f o p = cond f.flattened (inner (definition_at g f.shape) c f o p) (own_gap f o p)
+
+-- of a field that is there
+abbrev pub gap_found : FlatGap → Registry → Choice → Owner → Option Field → Path → Option Gap
+gap_found inner g c o None p = None
+gap_found inner g c o (Some f) p = gap_field inner g c f o p
+
+-- among these fields
+abbrev pub gap_in : FlatGap → Registry → Choice → Owner → List Field → Path → Option Gap
+gap_in inner g c o fs [] = None
+gap_in inner g c o fs (k ∷ p) = gap_found inner g (below k c) o (slice_get fs k) p
+
+-- Within so many layers. No shape can be flattened yet.
+abbrev pub gap_flat : Registry → ℕ → FlatGap
+gap_flat g zero d c f o p = None
+gap_flat g (suc n) d c f o p = None
+
+-- which field may be absent at a path
+abbrev pub gap_at : Registry → Choice → Layout → Owner → Path → Option Gap
+gap_at g c l o p = gap_in (gap_flat g (length g)) g c o l.fields p

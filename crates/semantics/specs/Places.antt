@@ -23,6 +23,11 @@ rest_at k x = rest_of k x.path x.item
 abbrev pub below : {A : Type 0} → ℕ → List (At A) → List (At A)
 below k xs = filter_map (rest_at k) xs
 
+-- what stands at a path or below it, by the rest of its path
+abbrev pub all_below : {A : Type 0} → Path → List (At A) → List (At A)
+all_below [] xs = xs
+all_below (k ∷ p) xs = all_below p (below k xs)
+
 -- the thing one place further down
 abbrev pub under : {A : Type 0} → ℕ → At A → At A
 under k x = record { path = k ∷ x.path; item = x.item }

@@ -277,6 +277,13 @@ abbrev pub read : Setting → ℕ → Reader
 read g zero s source r = None
 read g (suc n) s source r = read_shape g (read g n) s source r (definition_at g.registry s)
 
+-- What a run is read as where it stands for a part, within a depth. Only values of shapes are parts yet.
+abbrev pub read_part : Setting → ℕ → Part → Source → Run → Option Tree
+read_part g n (of_shape s) source r = read g n s source r
+read_part g n (of_variant j v) source r = None
+read_part g n (of_tag t) source r = None
+read_part g n (of_entry s t) source r = None
+
 -- These events are one run, which is read as this value of the shape.
 pub record Reads (g : Setting) (depth shape : ℕ) (source : Source) (events : List Event) (value : Tree) : Type 0 where
   pub run : Run
