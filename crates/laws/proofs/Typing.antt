@@ -113,15 +113,15 @@ none_left [] e = refl
 none_left (x ∷ xs) e = absurd cc
 
 -- the values of a tuple
-tuple_read : (g : Registry) (rd : Reader) (d : StructShape) (r : Run) (v : Tree) → read_tuple g rd d r ≡ Some v
-    → (vs : Trees) × (structure vs ≡ v) × (((rs : List Run) × (read_elements g rd d.fields rs ≡ Some vs)) ⊎ ((d.fields ≡ []) × (vs ≡ no_trees)))
+tuple_read : (g : Setting) (rd : Reader) (d : StructShape) (r : Run) (v : Tree) → read_tuple g rd d r ≡ Some v
+    → (vs : Trees) × (structure vs ≡ v) × (((rs : List Run) × (read_elements g.registry rd d.fields rs ≡ Some vs)) ⊎ ((d.fields ≡ []) × (vs ≡ no_trees)))
 tuple_read g rd d (group of_sequence k n i) v e =
-    let (vs, read_all, is) = mapped structure (option_and_then (read_elements g rd d.fields) (items i)) v e in
-    let (rs, cut, elements) = bound (read_elements g rd d.fields) (items i) vs read_all in
+    let (vs, read_all, is) = mapped structure (option_and_then (read_elements g.registry rd d.fields) (items i)) v e in
+    let (rs, cut, elements) = bound (read_elements g.registry rd d.fields) (items i) vs read_all in
     (vs, is, inl (rs, elements))
 tuple_read g rd d (group of_struct object_kind n i) v e =
-    let (vs, read_all, is) = mapped structure (option_and_then (λ es. read_elements g rd d.fields (entry_runs es)) (entries i)) v e in
-    let (es, cut, elements) = bound (λ es. read_elements g rd d.fields (entry_runs es)) (entries i) vs read_all in
+    let (vs, read_all, is) = mapped structure (option_and_then (λ es. read_elements g.registry rd d.fields (entry_runs es)) (entries i)) v e in
+    let (es, cut, elements) = bound (λ es. read_elements g.registry rd d.fields (entry_runs es)) (entries i) vs read_all in
     (vs, is, inl (entry_runs es, elements))
 tuple_read g rd d (group of_struct array_kind n i) v e = absurd cc
 tuple_read g rd d (one x n) v e =
@@ -209,9 +209,9 @@ module _ (g : Setting) (checked : IsRegistry g.registry) (rd : Reader) (parts : 
       → typed g.registry s v ≡ true
   structure_typed s d is vs v value all = ap (typed g.registry s) (sym value) ∙ ap (λ o. on_some (option_and_then struct_of o) (λ q. fields_typed g.registry q.fields vs)) is ∙ all
 
-  tuple_typed : (s : ℕ) (d : StructShape) → base g.registry s ≡ Some (struct_shape d) → Every BuiltField d.fields → (r : Run) (v : Tree) → read_tuple g.registry rd d r ≡ Some v → typed g.registry s v ≡ true
+  tuple_typed : (s : ℕ) (d : StructShape) → base g.registry s ≡ Some (struct_shape d) → Every BuiltField d.fields → (r : Run) (v : Tree) → read_tuple g rd d r ≡ Some v → typed g.registry s v ≡ true
   tuple_typed s d is fields r v e =
-      let (vs, value, how) = tuple_read g.registry rd d r v e in
+      let (vs, value, how) = tuple_read g rd d r v e in
       structure_typed s d is vs v value (by_case vs how)
     where
       by_case : (vs : Trees) → (((rs : List Run) × (read_elements g.registry rd d.fields rs ≡ Some vs)) ⊎ ((d.fields ≡ []) × (vs ≡ no_trees))) → fields_typed g.registry d.fields vs ≡ true
@@ -227,7 +227,7 @@ module _ (g : Setting) (checked : IsRegistry g.registry) (rd : Reader) (parts : 
       (fields_are_typed g.registry (by_run g.registry rd) (λ t x w h. parts t _ x.run w h) (read_flat g.registry (by_run g.registry rd) false (length g.registry)) false [] 0 d.fields xs vs (filled d.fields fields) read_all)
 
   struct_typed : (s : ℕ) (d : StructShape) → base g.registry s ≡ Some (struct_shape d) → Every BuiltField d.fields → (r : Run) (v : Tree) (b : Bool)
-      → cond b (read_tuple g.registry rd d r) (read_object (read_struct g.registry rd [] d.deny (plain_layout d)) r) ≡ Some v → typed g.registry s v ≡ true
+      → cond b (read_tuple g rd d r) (read_object (read_struct g.registry rd [] d.deny (plain_layout d)) r) ≡ Some v → typed g.registry s v ≡ true
   struct_typed s d is fields r v true e = tuple_typed s d is fields r v e
   struct_typed s d is fields r v false e = object_typed s d is fields r v e
 

@@ -107,7 +107,7 @@ module _ (t : Terms) (n : ℕ) (meets : Meets t n) (s : ℕ) (d : StructShape) w
   empty_meets false fs rest = refl
 
   pub tuple_meets : (fs : Frames) (e : Event) (es : List Event) (ending : Ending) (last : Span)
-      → (begin_tuple t (new_tuple s d n) fs e >>= on t (feed es ending (span_of e))) ≡ (tuple_at registry tuple (reading t n) (path t fs) (feed (e ∷ es) ending last) >>= resume t fs)
+      → (begin_tuple t (new_tuple s d n) fs e >>= on t (feed es ending (span_of e))) ≡ (tuple_at t.setting tuple (reading t n) (path t fs) (feed (e ∷ es) ending last) >>= resume t fs)
   tuple_meets fs (start of_sequence c m) es ending last = elements_meet (length es + 1) [] fs es ending m.span (omega arith)
   tuple_meets fs (start of_struct object_kind m) es ending last = keyed_meet (length es + 1) [] fs es ending m.span (omega arith)
   tuple_meets fs (start of_struct array_kind m) es ending last = refl

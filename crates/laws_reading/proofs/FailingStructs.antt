@@ -74,7 +74,7 @@ module _ (terms : Terms) (n s : ℕ) (source : Source) (d : StructShape)
   part path = part_of s (suc n) path source
 
   reads_object : (run : Run) → read terms.setting (suc n) s source run ≡ read_object mean run
-  reads_object run = ap (read_shape terms.setting (read terms.setting n) s source run) defined ∙ ap (λ b. cond b (read_tuple g (read terms.setting n) d run) (read_object mean run)) no_tuple
+  reads_object run = ap (read_shape terms.setting (read terms.setting n) s source run) defined ∙ ap (λ b. cond b (read_tuple terms.setting (read terms.setting n) d run) (read_object mean run)) no_tuple
 
   is_object : IsObject g (of_shape s) d
   is_object = ap (option_and_then object_of) defined ∙ ap (λ b. cond b None (Some d)) no_tuple

@@ -57,7 +57,7 @@ module _ (terms : Terms) (n s : ℕ) (source : Source) (d : StructShape)
       first_unexpected terms n s path source last ending f (leaf (scalar v h)) l (sym (err_is (fault unexpected_token h.span path) f told)) (alone terms n s source d defined tuple) (not_empty path v h is)
 
   pub tuple_fails : ((s : ℕ) (source : Source) → Fails terms n s source (reading terms n s source)) → ((s : ℕ) (source : Source) → Sound (read terms.setting n s source) (reading terms n s source))
-      → Fails terms (suc n) s source (tuple_at terms.setting.registry (elements terms n s source d defined tuple) (reading terms n))
+      → Fails terms (suc n) s source (tuple_at terms.setting (elements terms n s source d defined tuple) (reading terms n))
   tuple_fails parts sound path [] ending last f told = ended_first terms n s path source last ending f (sym (err_is (ended_at ending last) f told))
   tuple_fails parts sound path (start of_sequence k m ∷ l) ending last f told =
       elements_fail terms n s source d defined tuple parts sound path k m last ending f (length l + 1) [] [] l m.span refl (omega arith) refl (omega arith) told

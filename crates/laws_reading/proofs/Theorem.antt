@@ -19,7 +19,7 @@ use Rattle.laws_reading.proofs.Structs.{ends_sound, ends_complete, struct_sound,
 module _ (terms : Terms) (rd : Reader) (at : ReadsPart) (s : ℕ) (source : Source) where
   -- a struct is read as a tuple, or as an object
   abbrev WhichStruct : StructShape → Bool → (Run → Option Tree)
-  WhichStruct d b r = cond b (read_tuple terms.setting.registry rd d r) (read_object (read_struct terms.setting.registry rd [] d.deny (plain_layout d)) r)
+  WhichStruct d b r = cond b (read_tuple terms.setting rd d r) (read_object (read_struct terms.setting.registry rd [] d.deny (plain_layout d)) r)
 
   step_sound : ((s : ℕ) (source : Source) → Sound (rd s source) (at s source)) → (d : Definition) → Sound (λ r. read_as terms.setting rd s source d r) (value_as terms at s source d)
   step_sound sound (scalar_shape t) = scalar_sound (target_of terms s t)
@@ -30,7 +30,7 @@ module _ (terms : Terms) (rd : Reader) (at : ReadsPart) (s : ℕ) (source : Sour
   step_sound sound (struct_shape d) = by_kind (is_tuple d.kind)
     where
       by_kind : (b : Bool) → Sound (WhichStruct d b) (struct_as terms at s d b)
-      by_kind true = tuple_sound terms.setting.registry rd at d s sound
+      by_kind true = tuple_sound terms.setting rd at d s sound
       by_kind false = struct_sound terms.setting.registry (part_value terms.setting.registry rd) (end_at at) [] d.deny (plain_layout d) s (ends_sound terms.setting.registry rd at sound)
   step_sound sound (transparent_shape i) = sound i source
   step_sound sound (set_shape i) = refused_sound (λ r. None)
@@ -49,7 +49,7 @@ module _ (terms : Terms) (rd : Reader) (at : ReadsPart) (s : ℕ) (source : Sour
   step_complete complete (struct_shape d) = by_kind (is_tuple d.kind)
     where
       by_kind : (b : Bool) → Complete (WhichStruct d b) (struct_as terms at s d b)
-      by_kind true = tuple_complete terms.setting.registry rd at d s complete
+      by_kind true = tuple_complete terms.setting rd at d s complete
       by_kind false = struct_complete terms.setting.registry (part_value terms.setting.registry rd) (end_at at) [] d.deny (plain_layout d) s (ends_complete terms.setting.registry rd at complete)
   step_complete complete (transparent_shape i) = complete i source
   step_complete complete (set_shape i) = none_complete

@@ -6,7 +6,7 @@ use Rattle.semantics.specs.Events.{Span, Note, Scalar, scalar, of_struct, of_seq
 use Rattle.semantics.specs.Faults.{Step, Fault, Ending}
 use Rattle.semantics.specs.Runs.{Inside, Run, one, group, tagged, inside_events, run_events, Entry, entries, items, entries_events, runs_events}
 use Rattle.semantics.specs.Registry.{has_some}
-use Rattle.semantics.specs.Reading.{Source, Reader, is_nothing, read_elements, entry_runs, read_tuple}
+use Rattle.semantics.specs.Reading.{Setting, Source, Reader, is_nothing, read_elements, entry_runs, read_tuple}
 use Rattle.semantics.specs.Causes.{last_span}
 use Rattle.laws_reading.specs.Input.{Input, feed, ◌>>=◌, turning}
 use Rattle.laws_reading.specs.Structs.{ReadsPart}
@@ -19,14 +19,17 @@ use Rattle.laws_reading.proofs.Sequences.{items_cut, items_last}
 use Rattle.laws_reading.proofs.Elements.{lead, Behind, end_sound, end_complete}
 use Rattle.laws_reading.proofs.TupleLoops.{Taken, items_sound, entries_sound, items_complete, entries_complete}
 
-module _ (g : Registry) (rd : Reader) (read : ReadsPart) (d : StructShape) (s : ℕ) where
+module _ (setting : Setting) (rd : Reader) (read : ReadsPart) (d : StructShape) (s : ℕ) where
+  abbrev g : Registry
+  g = setting.registry
+
   abbrev elements : Elements
   elements = record { shape = s; fields = d.fields }
 
   -- the tuple without items, of an event for nothing
   empty_sound : (path : List Step) (x : Scalar) (n : Note) (l : List Event) (ending : Ending) (last : Span) (w : Tree) (after : Input) (b : Bool) → (not (has_some d.fields) && is_nothing x) ≡ b
       → empty_tuple b path (feed l ending n.span) ≡ Ok (w, after)
-      → (r : Run) × (leaf (scalar x n) ∷ l ≡ run_events r ++ after.events) × (after.ending ≡ ending) × (after.last ≡ last_span last (run_events r)) × (read_tuple g rd d r ≡ Some w)
+      → (r : Run) × (leaf (scalar x n) ∷ l ≡ run_events r ++ after.events) × (after.ending ≡ ending) × (after.last ≡ last_span last (run_events r)) × (read_tuple setting rd d r ≡ Some w)
   empty_sound path x n l ending last w after false is e = absurd cc
   empty_sound path x n l ending last w after true is e =
       let p = ok_is (structure no_trees, feed l ending n.span) (w, after) e in (
@@ -37,7 +40,7 @@ module _ (g : Registry) (rd : Reader) (read : ReadsPart) (d : StructShape) (s : 
         ap (λ b. cond b (Some (structure no_trees)) None) is ∙ ap (λ (y : Tree × Input). Some y.0) p,
       )
 
-  pub tuple_sound : ((s : ℕ) (source : Source) → Sound (rd s source) (read s source)) → Sound (read_tuple g rd d) (tuple_at g elements read)
+  pub tuple_sound : ((s : ℕ) (source : Source) → Sound (rd s source) (read s source)) → Sound (read_tuple setting rd d) (tuple_at setting elements read)
   tuple_sound sound path [] ending last w after e = absurd cc
   tuple_sound sound path (start of_sequence k n ∷ l) ending last w after e =
       let (x, got, made) = bind_ok (turning (element_turn elements read) (length l + 1) [] path (feed l ending n.span)) (tuple_end g elements path) (w, after) e in
@@ -101,7 +104,7 @@ module _ (g : Registry) (rd : Reader) (read : ReadsPart) (d : StructShape) (s : 
     empty_read true e = let same : structure no_trees ≡ w = cc in ap (λ x. Ok (x, feed rest ending n.span)) same
     empty_read false e = absurd cc
 
-  pub tuple_complete : ((s : ℕ) (source : Source) → Complete (rd s source) (read s source)) → Complete (read_tuple g rd d) (tuple_at g elements read)
+  pub tuple_complete : ((s : ℕ) (source : Source) → Complete (rd s source) (read s source)) → Complete (read_tuple setting rd d) (tuple_at setting elements read)
   tuple_complete complete path (group of_sequence k n i) w rest ending last e = items_read complete path n w rest ending last i (items i) refl e
   tuple_complete complete path (group of_struct object_kind n i) w rest ending last e = entries_read complete path n w rest ending last i (entries i) refl e
   tuple_complete complete path (group of_struct array_kind n i) w rest ending last e = absurd cc

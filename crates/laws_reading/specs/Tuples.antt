@@ -5,7 +5,7 @@ use Rattle.semantics.specs.Shapes.{Field, Registry}
 use Rattle.semantics.specs.Events.{scalar, key, of_struct, of_sequence, object_kind, Event, leaf, start, stop}
 use Rattle.semantics.specs.Faults.{Step, index_step, missing_field, too_many_elements, reflect, Fault}
 use Rattle.semantics.specs.Registry.{has_some}
-use Rattle.semantics.specs.Reading.{from_events, fill, is_nothing}
+use Rattle.semantics.specs.Reading.{Setting, from_events, fill, is_nothing}
 use Rattle.semantics.specs.Causes.{ends_sequence}
 use Rattle.laws_reading.specs.Input.{Input, ◌>>=◌, Reads, refused, unexpected, taken_at, peeked_at, turning}
 use Rattle.laws_reading.specs.Structs.{ReadsPart}
@@ -65,12 +65,12 @@ abbrev pub empty_tuple : Bool → Reads Tree
 empty_tuple true path input = Ok (structure (trees_of []), input)
 empty_tuple false path input = unexpected path input
 
-abbrev pub tuple_of : Event → Registry → Elements → ReadsPart → Reads Tree
-tuple_of (start of_sequence k n) g t read path input = elements_at g t read path input
-tuple_of (start of_struct object_kind n) g t read path input = keyed_at g t read path input
+abbrev pub tuple_of : Event → Setting → Elements → ReadsPart → Reads Tree
+tuple_of (start of_sequence k n) g t read path input = elements_at g.registry t read path input
+tuple_of (start of_struct object_kind n) g t read path input = keyed_at g.registry t read path input
 tuple_of (leaf (scalar x n)) g t read path input = empty_tuple (not (has_some t.fields) && is_nothing x) path input
 tuple_of _ g t read path input = unexpected path input
 
 -- a tuple: a sequence, or an object whose keys are passed over
-abbrev pub tuple_at : Registry → Elements → ReadsPart → Reads Tree
+abbrev pub tuple_at : Setting → Elements → ReadsPart → Reads Tree
 tuple_at g t read path input = taken_at path input >>= λ x. tuple_of x.0 g t read path x.1

@@ -21,7 +21,7 @@ target_of terms s t = record { borrow = terms.setting.borrow; shape = s; type = 
 
 -- a struct: a tuple, or an object
 abbrev pub struct_as : Terms → ReadsPart → ℕ → StructShape → Bool → Reads Tree
-struct_as terms read s d true path input = tuple_at terms.setting.registry (record { shape = s; fields = d.fields }) read path input
+struct_as terms read s d true path input = tuple_at terms.setting (record { shape = s; fields = d.fields }) read path input
 struct_as terms read s d false path input = struct_at terms.setting.registry (end_at read) [] d.deny (plain_layout d) s path input
 
 -- One step of reading, where the parts are read so. Sets, maps and enums aren't built yet.

@@ -249,9 +249,9 @@ abbrev pub entry_runs : List Entry → List Run
 entry_runs es = map (λ e. e.run) es
 
 -- A tuple: a sequence, or an object whose keys are passed over. One without items may also be null or unit.
-abbrev pub read_tuple : Registry → Reader → StructShape → Run → Option Tree
-read_tuple g rd d (group of_sequence k n i) = option_map structure (option_and_then (read_elements g rd d.fields) (items i))
-read_tuple g rd d (group of_struct object_kind n i) = option_map structure (option_and_then (λ es. read_elements g rd d.fields (entry_runs es)) (entries i))
+abbrev pub read_tuple : Setting → Reader → StructShape → Run → Option Tree
+read_tuple g rd d (group of_sequence k n i) = option_map structure (option_and_then (read_elements g.registry rd d.fields) (items i))
+read_tuple g rd d (group of_struct object_kind n i) = option_map structure (option_and_then (λ es. read_elements g.registry rd d.fields (entry_runs es)) (entries i))
 read_tuple g rd d (group of_struct array_kind n i) = None
 read_tuple g rd d (one x n) = cond (not (has_some d.fields) && is_nothing x) (Some (structure no_trees)) None
 read_tuple g rd d (tagged t n r) = None
@@ -263,7 +263,7 @@ read_as g rd s source (option_shape i) r = read_option (rd i from_events) r
 read_as g rd s source (result_shape i j) r = read_object (read_result rd i j) r
 read_as g rd s source (list_shape i) r = read_sequence (read_items (rd i from_events) None) r
 read_as g rd s source (array_shape i len) r = read_sequence (read_items (rd i from_events) (Some len)) r
-read_as g rd s source (struct_shape d) r = cond (is_tuple d.kind) (read_tuple g.registry rd d r) (read_object (read_struct g.registry rd [] d.deny (plain_layout d)) r)
+read_as g rd s source (struct_shape d) r = cond (is_tuple d.kind) (read_tuple g rd d r) (read_object (read_struct g.registry rd [] d.deny (plain_layout d)) r)
 read_as g rd s source (transparent_shape i) r = rd i source r
 read_as g rd s source _ r = None
 
