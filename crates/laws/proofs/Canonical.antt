@@ -184,13 +184,13 @@ module _ (g : Setting) (checked : IsRegistry g.registry) (n : ℕ) (rd : Reader)
 
   object_back : (q : StructShape) → Every BuiltField q.fields → ((c : Choice) → Distinct (keys g.registry (plain_layout q) c)) → Every (λ f. Separable every_clash g.registry f.shape) q.fields
       → (vs : Trees) (d : Document) (r : Run) → deepest_field g.registry q.fields vs ≤ n → written_object (write_fields g.registry q.fields vs) ≡ Ok d → Comes d r
-      → (ws : Trees) × (read_object (read_struct g.registry rd [] q.deny (plain_layout q)) r ≡ Some (structure ws)) × FieldsAlike g.registry q.fields vs ws
+      → (ws : Trees) × (read_object (read_struct g rd [] q.deny (plain_layout q)) r ≡ Some (structure ws)) × FieldsAlike g.registry q.fields vs ws
   object_back q fields distinct sep vs d r deep e comes =
       let (ms, is_ms, is) = object_inverted (write_fields g.registry q.fields vs) d e in
       let (note, inside, es, is_r, cut, order) = comes_object ms r (subst (λ x. Comes x r) (sym is) comes) in
-      let (ws, all_read, alikes) = struct_read g.registry rd [] q.deny (plain_layout q) vs ms es (distinct []) (own_fields q.fields fields) (fields_read q.fields vs sep deep) is_ms order in (
+      let (ws, all_read, alikes) = struct_read g rd [] q.deny (plain_layout q) vs ms es (distinct []) (own_fields q.fields fields) (fields_read q.fields vs sep deep) is_ms order in (
         ws,
-        ap (read_object (read_struct g.registry rd [] q.deny (plain_layout q))) is_r ∙ ap (option_and_then (read_struct g.registry rd [] q.deny (plain_layout q))) cut ∙ all_read,
+        ap (read_object (read_struct g rd [] q.deny (plain_layout q))) is_r ∙ ap (option_and_then (read_struct g rd [] q.deny (plain_layout q))) cut ∙ all_read,
         alikes,
       )
 
@@ -198,13 +198,13 @@ module _ (g : Setting) (checked : IsRegistry g.registry) (n : ℕ) (rd : Reader)
   struct_back : (q : StructShape) (b : Bool) → is_tuple q.kind ≡ b → Every BuiltField q.fields → HasDistinctKeys g.registry (struct_shape q) → Every (λ f. Separable every_clash g.registry f.shape) q.fields
       → (vs : Trees) (d : Document) (r : Run) → deepest_field g.registry q.fields vs ≤ n
       → cond b (written_sequence (write_items g.registry q.fields vs)) (written_object (write_fields g.registry q.fields vs)) ≡ Ok d → Comes d r
-      → (ws : Trees) × (cond b (read_tuple g rd q r) (read_object (read_struct g.registry rd [] q.deny (plain_layout q)) r) ≡ Some (structure ws)) × FieldsAlike g.registry q.fields vs ws
+      → (ws : Trees) × (cond b (read_tuple g rd q r) (read_object (read_struct g rd [] q.deny (plain_layout q)) r) ≡ Some (structure ws)) × FieldsAlike g.registry q.fields vs ws
   struct_back q true kind fields apart sep vs d r deep e comes = tuple_back q sep vs d r deep e comes
   struct_back q false kind fields apart sep vs d r deep e comes = object_back q fields (apart kind) sep vs d r deep e comes
 
   struct_step : (q : StructShape) → Every BuiltField q.fields → HasDistinctKeys g.registry (struct_shape q) → Every (λ f. Separable every_clash g.registry f.shape) q.fields → (v : Tree) (d : Document) (r : Run)
       → depth_by g.registry (Some (struct_shape q)) v ≤ suc n → write_by g.registry (Some (struct_shape q)) v ≡ Ok d → Comes d r
-      → ReadBy g.registry (struct_shape q) v (cond (is_tuple q.kind) (read_tuple g rd q r) (read_object (read_struct g.registry rd [] q.deny (plain_layout q)) r))
+      → ReadBy g.registry (struct_shape q) v (cond (is_tuple q.kind) (read_tuple g rd q r) (read_object (read_struct g rd [] q.deny (plain_layout q)) r))
   struct_step q fields apart sep (structure vs) d r deep e comes =
       let (ws, whole, alikes) = struct_back q (is_tuple q.kind) refl fields apart sep vs d r (omega (arith, deep)) e comes in
       (structure ws, whole, (ws, refl, alikes))

@@ -12,7 +12,7 @@ use Rattle.semantics.specs.Documents.{free, Document, Members, Member, member_li
 use Rattle.semantics.specs.Writing.{Written, write, write_fields}
 use Rattle.semantics.specs.Places.{Path, rest_of, rest_at, below, has_whole, Choice}
 use Rattle.semantics.specs.Keys.{flat_keys, keys, Layout, Plan, plan_of, leads, after_key, Placed, with_entry, placed, is_allowed, are_allowed}
-use Rattle.semantics.specs.Reading.{Reader, from_events, source_of, by_run, read_own, FlatReader, read_field, and_trees, read_fields, read_flat, read_layout, read_entries, read_struct}
+use Rattle.semantics.specs.Reading.{Setting, Reader, from_events, source_of, by_run, read_own, FlatReader, read_field, and_trees, read_fields, read_flat, read_layout, read_entries, read_struct}
 use Rattle.semantics.specs.Validity.{Distinct, Alike, FieldsAlike}
 use Rattle.laws.proofs.Mixes.{Mixes, Agrees, mixes_filter, mixes_one, mixes_every}
 use Rattle.laws.proofs.Orders.{Comes, Carried}
@@ -167,9 +167,9 @@ entries_read g rd c deny l vs ms es distinct own good e order =
     )
 
 -- the same of a struct
-pub struct_read : (g : Registry) (rd : Reader) (c : Choice) (deny : Bool) (l : Layout) (vs : Trees) (ms : Members) (es : List Entry)
-    → Distinct (keys g l c) → Every IsOwn l.fields → FieldsRead g rd l.fields vs → write_fields g l.fields vs ≡ Ok ms
-    → Mixes Carried (member_list ms) es → (ws : Trees) × (read_struct g rd c deny l es ≡ Some (structure ws)) × FieldsAlike g l.fields vs ws
+pub struct_read : (g : Setting) (rd : Reader) (c : Choice) (deny : Bool) (l : Layout) (vs : Trees) (ms : Members) (es : List Entry)
+    → Distinct (keys g.registry l c) → Every IsOwn l.fields → FieldsRead g.registry rd l.fields vs → write_fields g.registry l.fields vs ≡ Ok ms
+    → Mixes Carried (member_list ms) es → (ws : Trees) × (read_struct g rd c deny l es ≡ Some (structure ws)) × FieldsAlike g.registry l.fields vs ws
 struct_read g rd c deny l vs ms es distinct own good e order =
-    let (ws, read, alike) = entries_read g rd c deny l vs ms es distinct own good e order in
+    let (ws, read, alike) = entries_read g.registry rd c deny l vs ms es distinct own good e order in
     (ws, ap (option_map structure) read, alike)

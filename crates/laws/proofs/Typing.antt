@@ -67,11 +67,11 @@ entries_inverted g rd c deny l es vs e =
     let xs = placed (plan_of g c deny l) 0 es in
     (xs, (if_true (are_allowed (plan_of g c deny l) 0 es) (read_layout g rd c l xs) vs e).1)
 
-struct_inverted : (g : Registry) (rd : Reader) (c : Choice) (deny : Bool) (l : Layout) (es : List Entry) (v : Tree) → read_struct g rd c deny l es ≡ Some v
-    → (xs : List (At Entry)) × (vs : Trees) × (read_layout g (by_run g rd) c l xs ≡ Some vs) × (structure vs ≡ v)
+struct_inverted : (g : Setting) (rd : Reader) (c : Choice) (deny : Bool) (l : Layout) (es : List Entry) (v : Tree) → read_struct g rd c deny l es ≡ Some v
+    → (xs : List (At Entry)) × (vs : Trees) × (read_layout g.registry (by_run g.registry rd) c l xs ≡ Some vs) × (structure vs ≡ v)
 struct_inverted g rd c deny l es v e =
-    let (vs, read_all, value) = mapped structure (read_entries g (by_run g rd) c deny l es) v e in
-    let (xs, is) = entries_inverted g (by_run g rd) c deny l es vs read_all in
+    let (vs, read_all, value) = mapped structure (read_entries g.registry (by_run g.registry rd) c deny l es) v e in
+    let (xs, is) = entries_inverted g.registry (by_run g.registry rd) c deny l es vs read_all in
     (xs, vs, is, value)
 
 -- what is typed depends on what the shape is made of alone
@@ -219,15 +219,15 @@ module _ (g : Setting) (checked : IsRegistry g.registry) (rd : Reader) (parts : 
       by_case vs (inr (empty, nothing)) = ap₂ (fields_typed g.registry) empty nothing
 
   object_typed : (s : ℕ) (d : StructShape) → base g.registry s ≡ Some (struct_shape d) → Every BuiltField d.fields → (r : Run) (v : Tree)
-      → read_object (read_struct g.registry rd [] d.deny (plain_layout d)) r ≡ Some v → typed g.registry s v ≡ true
+      → read_object (read_struct g rd [] d.deny (plain_layout d)) r ≡ Some v → typed g.registry s v ≡ true
   object_typed s d is fields r v e =
-      let (es, mean) = object_read (read_struct g.registry rd [] d.deny (plain_layout d)) r v e in
-      let (xs, vs, read_all, value) = struct_inverted g.registry rd [] d.deny (plain_layout d) es v mean in
+      let (es, mean) = object_read (read_struct g rd [] d.deny (plain_layout d)) r v e in
+      let (xs, vs, read_all, value) = struct_inverted g rd [] d.deny (plain_layout d) es v mean in
       structure_typed s d is vs v value
       (fields_are_typed g.registry (by_run g.registry rd) (λ t x w h. parts t _ x.run w h) (read_flat g.registry (by_run g.registry rd) false (length g.registry)) false [] 0 d.fields xs vs (filled d.fields fields) read_all)
 
   struct_typed : (s : ℕ) (d : StructShape) → base g.registry s ≡ Some (struct_shape d) → Every BuiltField d.fields → (r : Run) (v : Tree) (b : Bool)
-      → cond b (read_tuple g rd d r) (read_object (read_struct g.registry rd [] d.deny (plain_layout d)) r) ≡ Some v → typed g.registry s v ≡ true
+      → cond b (read_tuple g rd d r) (read_object (read_struct g rd [] d.deny (plain_layout d)) r) ≡ Some v → typed g.registry s v ≡ true
   struct_typed s d is fields r v true e = tuple_typed s d is fields r v e
   struct_typed s d is fields r v false e = object_typed s d is fields r v e
 

@@ -65,7 +65,7 @@ module _ (terms : Terms) (n s : ℕ) (source : Source) (d : StructShape)
   takes = field_at (leaf_at g [] layout) (steps_at g [] layout) plan reads
 
   abbrev mean : List Entry → Option Tree
-  mean = read_struct g (read terms.setting n) [] d.deny layout
+  mean = read_struct terms.setting (read terms.setting n) [] d.deny layout
 
   abbrev Holding : List Entry → Got → Type 0
   Holding = Holds g ends reads [] d.deny layout s ends_are_sound

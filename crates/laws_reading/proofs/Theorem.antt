@@ -19,7 +19,7 @@ use Rattle.laws_reading.proofs.Structs.{ends_sound, ends_complete, struct_sound,
 module _ (terms : Terms) (rd : Reader) (at : ReadsPart) (s : ℕ) (source : Source) where
   -- a struct is read as a tuple, or as an object
   abbrev WhichStruct : StructShape → Bool → (Run → Option Tree)
-  WhichStruct d b r = cond b (read_tuple terms.setting rd d r) (read_object (read_struct terms.setting.registry rd [] d.deny (plain_layout d)) r)
+  WhichStruct d b r = cond b (read_tuple terms.setting rd d r) (read_object (read_struct terms.setting rd [] d.deny (plain_layout d)) r)
 
   step_sound : ((s : ℕ) (source : Source) → Sound (rd s source) (at s source)) → (d : Definition) → Sound (λ r. read_as terms.setting rd s source d r) (value_as terms at s source d)
   step_sound sound (scalar_shape t) = scalar_sound (target_of terms s t)

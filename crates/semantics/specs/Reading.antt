@@ -141,8 +141,8 @@ abbrev pub read_entries : Registry → Parts Entry → Choice → Bool → Layou
 read_entries g rd c deny l es = cond (are_allowed (plan_of g c deny l) 0 es) (read_layout g rd c l (placed (plan_of g c deny l) 0 es)) None
 
 -- the entries of a struct
-abbrev pub read_struct : Registry → Reader → Choice → Bool → Layout → List Entry → Option Tree
-read_struct g rd c deny l es = option_map structure (read_entries g (by_run g rd) c deny l es)
+abbrev pub read_struct : Setting → Reader → Choice → Bool → Layout → List Entry → Option Tree
+read_struct g rd c deny l es = option_map structure (read_entries g.registry (by_run g.registry rd) c deny l es)
 
 -- an object, whose entries are read so
 abbrev pub read_object : {A : Type 0} → (List Entry → Option A) → Run → Option A
@@ -263,7 +263,7 @@ read_as g rd s source (option_shape i) r = read_option (rd i from_events) r
 read_as g rd s source (result_shape i j) r = read_object (read_result rd i j) r
 read_as g rd s source (list_shape i) r = read_sequence (read_items (rd i from_events) None) r
 read_as g rd s source (array_shape i len) r = read_sequence (read_items (rd i from_events) (Some len)) r
-read_as g rd s source (struct_shape d) r = cond (is_tuple d.kind) (read_tuple g rd d r) (read_object (read_struct g.registry rd [] d.deny (plain_layout d)) r)
+read_as g rd s source (struct_shape d) r = cond (is_tuple d.kind) (read_tuple g rd d r) (read_object (read_struct g rd [] d.deny (plain_layout d)) r)
 read_as g rd s source (transparent_shape i) r = rd i source r
 read_as g rd s source _ r = None
 
