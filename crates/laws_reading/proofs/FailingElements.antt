@@ -41,8 +41,8 @@ module _ (terms : Terms) (n s : ℕ) (source : Source) (d : StructShape)
   abbrev whole : List Tree × Input → Result (Tree × Input) Fault
   whole = tuple_end terms.setting.registry (elements terms n s source d defined tuple) path
 
-  stands_in : (rs : List Run) → Stands terms.setting.registry (of_shape s) (items_so_far k m rs)
-  stands_in rs = in_sequence (by_sequence terms n s source d defined tuple) rs (record { container = k; note = m; is = refl })
+  stands_in : (rs : List Run) (after : List Event) → Stands terms.setting.registry (of_shape s) (items_so_far k m rs) after
+  stands_in rs after = in_sequence (by_sequence terms n s source d defined tuple) rs (record { container = k; note = m; is = refl })
 
   -- the rest fails within so many turns
   abbrev FailsWithin : ℕ → Type 0
@@ -76,7 +76,7 @@ module _ (terms : Terms) (n s : ℕ) (source : Source) (d : StructShape)
         → ((element_at o (elements terms n s source d defined tuple) (reading terms n) front path (feed (e ∷ es) ending last) >>= others turns) >>= whole) ≡ Err f → Why (items_so_far k m rs ++ (e ∷ es))
     place_fails other None here told =
         let none = has_no_place d.fields (length rs) here in
-        too_many_fails terms n s source d defined tuple path first ending f (items_so_far k m rs) (stands_in rs) e es last
+        too_many_fails terms n s source d defined tuple path first ending f (items_so_far k m rs) e es (stands_in rs _) last
         (another_item rs (record { container = k; note = m; is = refl }) (omega (arith, none, within)) other (sym at))
         (sym (err_is (fault (reflect (too_many_elements s (length d.fields))) last path) f told))
     place_fails other (Some x) here told =
@@ -87,7 +87,7 @@ module _ (terms : Terms) (n s : ℕ) (source : Source) (d : StructShape)
         → ((element_of b (elements terms n s source d defined tuple) (reading terms n) front path (feed (e ∷ es) ending last) >>= others turns) >>= whole) ≡ Err f → Why (items_so_far k m rs ++ (e ∷ es))
     turn_fails true end told =
         let (h, is) = end_is e end in
-        end_fails terms n s source d defined tuple path first ending f (items_so_far k m rs) (stands_in rs) e es front
+        end_fails terms n s source d defined tuple path first ending f (items_so_far k m rs) e es (stands_in rs _) front
         (of_items rs (record { container = k; note = m; is = refl }) (sym same) h is) told
     turn_fails false end told =
         place_fails end (slice_get d.fields (length rs)) refl

@@ -14,7 +14,7 @@ use Rattle.laws_reading.proofs.Errors.{err_is}
 use Rattle.laws_reading.proofs.Open.{nothing_open}
 
 -- the part itself is due, of which the events in front came
-abbrev pub cut_here : (g : Registry) (n s : ℕ) (path : List Step) (source : Source) (front rest : List Event) → Stands g (of_shape s) front → Cut g (part_of s (suc n) path source) (front ++ rest)
+abbrev pub cut_here : (g : Registry) (n s : ℕ) (path : List Step) (source : Source) (front rest : List Event) → Stands g (of_shape s) front rest → Cut g (part_of s (suc n) path source) (front ++ rest)
 cut_here g n s path source front rest stands = record {
   front = front;
   rest = rest;
@@ -26,7 +26,7 @@ cut_here g n s path source front rest stands = record {
 
 module _ (terms : Terms) (n s : ℕ) (path : List Step) (source : Source) (last : Span) (ending : Ending) (f : Fault) where
   -- an event that the part doesn't take, behind those that came of it
-  pub unexpected_here : (front : List Event) (e : Event) (rest : List Event) → f ≡ fault unexpected_token (span_of e) path → Stands terms.setting.registry (of_shape s) front
+  pub unexpected_here : (front : List Event) (e : Event) (rest : List Event) → f ≡ fault unexpected_token (span_of e) path → Stands terms.setting.registry (of_shape s) front (e ∷ rest)
       → TakesNo terms.setting (part_of s (suc n) path source) front e → Cause terms (part_of s (suc n) path source) last (front ++ (e ∷ rest)) ending f
   unexpected_here front e rest is stands takes = unexpected_at (span_of e) path is (record {
     cut = cut_here terms.setting.registry n s path source front (e ∷ rest) stands;

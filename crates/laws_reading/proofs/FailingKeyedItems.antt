@@ -42,8 +42,8 @@ module _ (terms : Terms) (n s : ℕ) (source : Source) (d : StructShape)
   abbrev whole : List Tree × Input → Result (Tree × Input) Fault
   whole = tuple_end terms.setting.registry (elements terms n s source d defined tuple) path
 
-  stands_in : (xs : List Entry) → Stands terms.setting.registry (of_shape s) (front_events xs)
-  stands_in xs = in_object (by_object terms n s source d defined tuple) xs (record { container = object_kind; note = m; is = refl })
+  stands_in : (xs : List Entry) (after : List Event) → Stands terms.setting.registry (of_shape s) (front_events xs) after
+  stands_in xs after = in_object (by_object terms n s source d defined tuple) xs (record { container = object_kind; note = m; is = refl })
 
   -- no run of the tuple is read that goes on with what is neither a key nor the end
   stray_none : (xs : List Entry) (e : Event) → is_stray e ≡ true → TakesNo terms.setting (part_of s (suc n) path source) (front_events xs) e
@@ -58,7 +58,7 @@ module _ (terms : Terms) (n s : ℕ) (source : Source) (d : StructShape)
   stray_none xs e stray (tagged x h r) rest cut = absurd cc
 
   stray_fails : (xs : List Entry) (e : Event) (es : List Event) → is_stray e ≡ true → f ≡ fault unexpected_token (span_of e) path → Why (front_events xs ++ (e ∷ es))
-  stray_fails xs e es stray told = unexpected_here terms n s path source first ending f (front_events xs) e es told (stands_in xs) (stray_none xs e stray)
+  stray_fails xs e es stray told = unexpected_here terms n s path source first ending f (front_events xs) e es told (stands_in xs _) (stray_none xs e stray)
 
   -- the rest fails within so many turns
   abbrev FailsWithin : ℕ → Type 0
@@ -98,7 +98,7 @@ module _ (terms : Terms) (n s : ℕ) (source : Source) (d : StructShape)
         → ((element_at o (elements terms n s source d defined tuple) (reading terms n) front path (feed es ending (key_note q).span) >>= others turns) >>= whole) ≡ Err f → Why (front_events xs ++ (leaf (key q) ∷ es))
     place_fails None here told =
         let none = has_no_place d.fields (length xs) here in
-        too_many_fails terms n s source d defined tuple path first ending f (front_events xs) (stands_in xs) (leaf (key q)) es (key_note q).span
+        too_many_fails terms n s source d defined tuple path first ending f (front_events xs) (leaf (key q)) es (stands_in xs _) (key_note q).span
         (another_entry xs (record { note = m; is = refl }) (omega (arith, none, within)) q refl refl)
         (sym (err_is (fault (reflect (too_many_elements s (length d.fields))) (key_note q).span path) f told))
     place_fails (Some x) here told =
@@ -120,7 +120,7 @@ module _ (terms : Terms) (n s : ℕ) (source : Source) (d : StructShape)
   keyed_items_fail (suc turns) xs front (leaf (key q) ∷ es) last same within at less told =
       key_fails turns (keyed_items_fail turns) xs front q es same within (omega (arith, less)) told
   keyed_items_fail (suc turns) xs front (stop of_struct h ∷ es) last same within at less told =
-      end_fails terms n s source d defined tuple path first ending f (front_events xs) (stands_in xs) (stop of_struct h) es front (of_entries xs (record { note = m; is = refl }) (sym same) h refl) told
+      end_fails terms n s source d defined tuple path first ending f (front_events xs) (stop of_struct h) es (stands_in xs _) front (of_entries xs (record { note = m; is = refl }) (sym same) h refl) told
   keyed_items_fail (suc turns) xs front (stop of_sequence h ∷ es) last same within at less told =
       stray_fails xs (stop of_sequence h) es refl (sym (err_is (fault unexpected_token h.span path) f told))
   keyed_items_fail (suc turns) xs front (leaf (scalar v h) ∷ es) last same within at less told =

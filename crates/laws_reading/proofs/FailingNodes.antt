@@ -63,8 +63,8 @@ module _ (terms : Terms) (n s : ℕ) (source : Source) (t : ScalarType) (is : de
   alone : stands_for_part (definition_at g s) ≡ false
   alone = ap stands_for_part is
 
-  passed : (es : List Entry) (q : Key) → passes g (definition_at g s) es q ≡ true
-  passed es q = ap (λ o. passes g o es q) is
+  passed : (es : List Entry) (q : Key) → passes g [] (definition_at g s) es q ≡ true
+  passed es q = ap (λ o. passes g [] o es q) is
 
   reads_node : (k : ContainerKind) (m : Note) (i : Inside) → read terms.setting (suc n) s source (group of_struct k m i) ≡ option_and_then mean (entries i)
   reads_node k m i = reads_scalar (group of_struct k m i)
@@ -85,9 +85,9 @@ module _ (terms : Terms) (n s : ℕ) (source : Source) (t : ScalarType) (is : de
     Why es = Cause terms (part_of s (suc n) path source) last es ending f
 
     -- a scalar that doesn't set the target, at the beginning or as the argument
-    unset_fails : (front : List Event) → Stands g (of_shape s) front → SetsHere front → (x : Scalar) (m : Note) (rest : List Event) → set_at target x path (feed rest ending m.span) ≡ Err f
+    unset_fails : (front : List Event) (x : Scalar) (m : Note) (rest : List Event) → Stands g (of_shape s) front (leaf (scalar x m) ∷ rest) → SetsHere front → set_at target x path (feed rest ending m.span) ≡ Err f
         → Why (front ++ (leaf (scalar x m) ∷ rest))
-    unset_fails front stands here x m rest told = by_outcome (set_scalar terms.setting.borrow s t x) refl told
+    unset_fails front x m rest stands here told = by_outcome (set_scalar terms.setting.borrow s t x) refl told
       where
         by_outcome : (o : Outcome) → set_scalar terms.setting.borrow s t x ≡ o → or_refused o path (feed rest ending m.span) ≡ Err f → Why (front ++ (leaf (scalar x m) ∷ rest))
         by_outcome (Ok v) set told = absurd cc
@@ -129,8 +129,8 @@ module _ (terms : Terms) (n s : ℕ) (source : Source) (t : ScalarType) (is : de
               | inr z ↦ absurd (let no_fault = z.2 in cc)
             ]
 
-        behind_key : Stands g (of_shape s) (front ++ (leaf (key q) ∷ []))
-        behind_key = in_passed object front more begun q (passed more q) [] refl nothing_open
+        behind_key : (after : List Event) → Stands g (of_shape s) (front ++ (leaf (key q) ∷ [])) after
+        behind_key after = in_passed object front more begun q [] refl (passed more q) [] refl nothing_open
 
         argument_fails : is_argument q ≡ true → (rest : List Event) → argument_at None target q path (feed rest ending (key_note q).span) ≡ Err f → After rest
         argument_fails names [] told =
@@ -141,7 +141,7 @@ module _ (terms : Terms) (n s : ℕ) (source : Source) (t : ScalarType) (is : de
             elim (bind_err (set_at target x path (feed rest ending j.span)) (with_argument q) f told) [
               | inl y ↦
                   subst Why (append_assoc front (leaf (key q) ∷ []) (leaf (scalar x j) ∷ rest))
-                  (unset_fails (front ++ (leaf (key q) ∷ [])) behind_key (as_argument front more begun q names refl) x j rest y)
+                  (unset_fails (front ++ (leaf (key q) ∷ [])) x j rest (behind_key (leaf (scalar x j) ∷ rest)) (as_argument front more begun q names refl) y)
               | inr z ↦ absurd (let no_fault = z.2 in cc)
             ]
         argument_fails names (leaf (key p) ∷ rest) told = without (leaf (key p) ∷ rest) told
@@ -223,7 +223,7 @@ module _ (terms : Terms) (n s : ℕ) (source : Source) (t : ScalarType) (is : de
 
   pub scalar_fails : Fails terms (suc n) s source (scalar_at target)
   scalar_fails path [] ending last f told = ended_first terms n s path source last ending f (sym (err_is (ended_at ending last) f told))
-  scalar_fails path (leaf (scalar x m) ∷ es) ending last f told = unset_fails path last ending f [] (before_all refl alone) (at_once refl) x m es told
+  scalar_fails path (leaf (scalar x m) ∷ es) ending last f told = unset_fails path last ending f [] x m es (before_all refl alone) (at_once refl) told
   scalar_fails path (start of_struct k m ∷ l) ending last f told =
       inside_fails path last ending f k m l
       (inside_refused Node Tree mean (node_entry target) (KeepsNode target) bare_node (refl, refl, refl) node_value (node_entry_sound target) path l ending m.span f told)

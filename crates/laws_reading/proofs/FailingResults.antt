@@ -46,8 +46,8 @@ module _ (terms : Terms) (n s i j : ℕ) (source : Source) (is : definition_at t
   abbrev front : ContainerKind → Note → List Entry → List Event
   front k m more = start of_struct k m ∷ entries_events more
 
-  stands_in : (k : ContainerKind) (m : Note) (more : List Entry) → Stands terms.setting.registry (of_shape s) (front k m more)
-  stands_in k m more = in_object (ap takes_object is) more (record { container = k; note = m; is = refl })
+  stands_in : (k : ContainerKind) (m : Note) (more : List Entry) (after : List Event) → Stands terms.setting.registry (of_shape s) (front k m more) after
+  stands_in k m more after = in_object (ap takes_object is) more (record { container = k; note = m; is = refl })
 
   -- no run of the result is read that goes on so
   none_read : (path : List Step) (k : ContainerKind) (m : Note) (more : List Entry) (e : Event)
@@ -63,7 +63,7 @@ module _ (terms : Terms) (n s i j : ℕ) (source : Source) (is : definition_at t
       → ((i : Inside) (rest : List Event) → inside_events of_struct i ++ [] ≡ entries_events more ++ (e ∷ rest) → option_and_then mean (entries i) ≡ None)
       → Why path last (front k m more ++ (e ∷ rest)) ending f
   unexpected_in path k m more e rest last ending f told none =
-      unexpected_here terms n s path source last ending f (front k m more) e rest told (stands_in k m more) (none_read path k m more e none)
+      unexpected_here terms n s path source last ending f (front k m more) e rest told (stands_in k m more _) (none_read path k m more e none)
 
   -- neither a key nor the end of the object stands behind these entries
   stray_in : (path : List Step) (k : ContainerKind) (m : Note) (more : List Entry) (e : Event) (rest : List Event) (last : Span) (ending : Ending) (f : Fault) → f ≡ fault unexpected_token (span_of e) path

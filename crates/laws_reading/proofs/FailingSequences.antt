@@ -74,8 +74,8 @@ module _ (terms : Terms) (n s i : ℕ) (len : Option ℕ) (source : Source) (is 
       by_len None = refl
       by_len (Some k) = refl
 
-  stands_in : (k : ContainerKind) (m : Note) (rs : List Run) → Stands terms.setting.registry (of_shape s) (items_so_far k m rs)
-  stands_in k m rs = in_sequence (ap takes_sequence is ∙ by_len len) rs (record { container = k; note = m; is = refl })
+  stands_in : (k : ContainerKind) (m : Note) (rs : List Run) (after : List Event) → Stands terms.setting.registry (of_shape s) (items_so_far k m rs) after
+  stands_in k m rs after = in_sequence (ap takes_sequence is ∙ by_len len) rs (record { container = k; note = m; is = refl })
     where
       by_len : (o : Option ℕ) → takes_sequence (Some (sequence_shape i o)) ≡ true
       by_len None = refl
@@ -94,7 +94,7 @@ module _ (terms : Terms) (n s i : ℕ) (len : Option ℕ) (source : Source) (is 
     too_many_fails : (rs : List Run) (e : Event) (es : List Event) (last : Span) → last ≡ last_span first (items_so_far k m rs) → ends_sequence e ≡ false
         → (len' : ℕ) → len ≡ Some len' → length rs ≡ len' → f ≡ fault (reflect (array_length s len' (length rs + 1))) last path → Why path first (items_so_far k m rs ++ (e ∷ es)) ending f
     too_many_fails rs e es last at other len' same whole told = other_length_at s len' (length rs + 1) last path told (record {
-      cut = cut_here terms.setting.registry n s path source (items_so_far k m rs) (e ∷ es) (stands_in k m rs);
+      cut = cut_here terms.setting.registry n s path source (items_so_far k m rs) (e ∷ es) (stands_in k m rs _);
       event = e;
       more = es;
       next = refl;
@@ -111,7 +111,7 @@ module _ (terms : Terms) (n s i : ℕ) (len : Option ℕ) (source : Source) (is 
     too_few_fails : (rs : List Run) (e : Event) (es : List Event) → ends_sequence e ≡ true
         → (len' : ℕ) → len ≡ Some len' → length rs < len' → f ≡ fault (reflect (array_length s len' (length rs))) (span_of e) path → Why path first (items_so_far k m rs ++ (e ∷ es)) ending f
     too_few_fails rs e es end len' same fewer_came told = other_length_at s len' (length rs) (span_of e) path told (record {
-      cut = cut_here terms.setting.registry n s path source (items_so_far k m rs) (e ∷ es) (stands_in k m rs);
+      cut = cut_here terms.setting.registry n s path source (items_so_far k m rs) (e ∷ es) (stands_in k m rs _);
       event = e;
       more = es;
       next = refl;

@@ -181,7 +181,7 @@ module _ (path : List Step) (ending : Ending) (f : Fault) where
 -- Behind whole entries stands a key whose value is passed over.
 module _ (terms : Terms) (n s : ℕ) (source : Source) (unread : (k : ContainerKind) (m : Note) (i : Inside) → entries i ≡ None → read terms.setting (suc n) s source (group of_struct k m i) ≡ None)
     (object : takes_object (definition_at terms.setting.registry s) ≡ true) (path : List Step) (last : Span) (ending : Ending) (f : Fault) (k : ContainerKind) (m : Note) (es : List Entry) (q : Key)
-    (passed : passes terms.setting.registry (definition_at terms.setting.registry s) es q ≡ true) where
+    (passed : passes terms.setting.registry [] (definition_at terms.setting.registry s) es q ≡ true) where
   abbrev front : List Event
   front = start of_struct k m ∷ entries_events es
 
@@ -203,7 +203,7 @@ module _ (terms : Terms) (n s : ℕ) (source : Source) (unread : (k : ContainerK
   by_stop rest (refused_in came e rest' cut begins none is) =
       subst (λ l. Cause terms (part_of s (suc n) path source) last l ending f) (append_assoc front (leaf (key q) ∷ came) (e ∷ rest') ∙ ap (λ l. front ++ (leaf (key q) ∷ l)) (sym cut))
       (unexpected_here terms n s path source last ending f (front ++ (leaf (key q) ∷ came)) e rest' is
-      (in_passed object front es (record { container = k; note = m; is = refl }) q passed came refl (begins_open came begins)) (none_read came e none))
+      (in_passed object front es (record { container = k; note = m; is = refl }) q [] refl passed came refl (begins_open came begins)) (none_read came e none))
 
   pub skip_fails : (rest : List Event) → skip_at path (feed rest ending (key_note q).span) ≡ Err f → Cause terms (part_of s (suc n) path source) last (front ++ (leaf (key q) ∷ rest)) ending f
   skip_fails rest told = by_stop rest (skip_stops path ending f (length rest + 1) [] rest (key_note q).span (omega arith) told)

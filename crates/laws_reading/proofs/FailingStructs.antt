@@ -121,7 +121,7 @@ module _ (terms : Terms) (n s : ℕ) (source : Source) (d : StructShape)
           let inner = part_of i n (path ++ steps_at g [] layout way) (source_of q) in
           subst Why (append_assoc front (leaf (key q) ∷ []) rest)
           (lift terms n (part path) inner refl refl (front ++ (leaf (key q) ∷ [])) last rest
-          (λ inside rest cut. enters_field d is_object front more begun q way (one_shape i) leads_to (ends_at ∙ ap (λ z. Some z) is) refl (append_assoc front (leaf (key q) ∷ []) inside))
+          (λ inside rest cut. enters_field d is_object [] refl front more begun q way (one_shape i) leads_to (ends_at ∙ ap (λ z. Some z) is) refl (append_assoc front (leaf (key q) ∷ []) inside))
           (λ begins. subst IsOpen (sym (append_assoc front (leaf (key q) ∷ []) rest)) (entry_open k m more q rest begins)) ending f
           (subst (λ z. Cause terms inner z rest ending f) (sym (last_span-append last front (leaf (key q) ∷ []))) why))
 
@@ -142,7 +142,7 @@ module _ (terms : Terms) (n s : ℕ) (source : Source) (d : StructShape)
             earlier = o.item.item;
             after = c.after;
             begun = record { container = k; note = m; is = ap (λ z. start of_struct k m ∷ entries_events z) c.is };
-            clashes = same_part d is_object p o.item.path
+            clashes = same_part d is_object [] refl p o.item.path
                 (ap (λ z. leads plan (ordered_count 0 z) q) (sym c.is) ∙ ap (λ z. leads plan z q) (sym keeps.1) ∙ lead) c.leads_there
                 (subst (λ z. Collide z p) (sym o.path) t.collide);
             text = refl;
@@ -181,9 +181,9 @@ module _ (terms : Terms) (n s : ℕ) (source : Source) (d : StructShape)
             let (e, ends_at) = key_leads g [] d.deny layout got.count q p lead allowed in
             end_fails p lead e ends_at (not e.many && is_taken p got.values) refl (ap (λ o. by_end g ends reads [] d.deny layout s ends_are_sound o p q got path input) (sym ends_at) ∙ told)
 
-        passed : leads plan got.count q ≡ None → passes g (definition_at g s) more q ≡ true
+        passed : leads plan got.count q ≡ None → passes g [] (definition_at g s) more q ≡ true
         passed lead =
-            ap (λ o. passes g o more q) defined ∙ ap (λ b. not b && is_none (leads plan (ordered_count 0 more) q)) no_tuple
+            ap (λ o. passes g [] o more q) defined ∙ ap (λ b. not b && is_none (leads plan (ordered_count 0 more) q)) no_tuple
             ∙ ap (λ (o : Option Path). is_none o) (ap (λ z. leads plan z q) (sym holds.0.1) ∙ lead)
 
         lead_fails : (o : Option Path) → leads plan got.count q ≡ o → is_allowed plan got.count q ≡ true → by_lead g ends reads [] d.deny layout s ends_are_sound o q got path input ≡ Err f → Here
@@ -226,6 +226,8 @@ module _ (terms : Terms) (n s : ℕ) (source : Source) (d : StructShape)
                 numbered = refl;
                 entries = more;
                 begun = begun;
+                choice = [];
+                chosen = refl;
                 way = way;
                 gap = l.gap;
                 here = ap (λ i. gap_found (gap_flat g (length g)) g (below i []) owner (slice_get d.fields l.place) l.way) (sym place) ∙ l.here;

@@ -76,6 +76,8 @@ module _ (terms : Terms) (n : ℕ) (part inner : Part) (deep : part.depth ≡ su
     numbered = x.numbered;
     entries = x.entries;
     begun = x.begun;
+    choice = x.choice;
+    chosen = x.chosen;
     way = x.way;
     gap = x.gap;
     here = x.here;

@@ -52,7 +52,7 @@ module _ (terms : Terms) (n s : ℕ) (source : Source) (d : StructShape)
       ap (read_shape terms.setting (read terms.setting n) s source run) defined
       ∙ ap (λ b. cond b (read_tuple terms.setting (read terms.setting n) d run) (read_object (read_struct terms.setting (read terms.setting n) [] d.deny (plain_layout d)) run)) tuple
 
-  module _ (path : List Step) (first : Span) (ending : Ending) (f : Fault) (so_far : List Event) (stands : Stands terms.setting.registry (of_shape s) so_far) (e : Event) (es : List Event) where
+  module _ (path : List Step) (first : Span) (ending : Ending) (f : Fault) (so_far : List Event) (e : Event) (es : List Event) (stands : Stands terms.setting.registry (of_shape s) so_far (e ∷ es)) where
     pub too_many_fails : (span : Span) → AnotherItem so_far (length d.fields) (last_span first so_far) e span → f ≡ fault (reflect (too_many_elements s (length d.fields))) span path
         → Cause terms (part_of s (suc n) path source) first (so_far ++ (e ∷ es)) ending f
     too_many_fails span another told = too_many_at s (length d.fields) span path told (record {
