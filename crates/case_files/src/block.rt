@@ -4,7 +4,7 @@ use crate::escape::add_raw;
 use crate::fault::{CaseFaultKind, ReadCasesError, fault};
 use crate::line::Line;
 use crate::part::Part;
-use shape_core::OutOfMemory;
+use shape_types::OutOfMemory;
 
 /// Adds the bytes of a block: each line with its line feed, all but the last one's, or what raw lines stand for.
 pub(crate) fn add_block(bytes: &mut Vec<u8>, part: &Part<'_, '_>) -> Result<(), ReadCasesError> {

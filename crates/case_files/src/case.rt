@@ -1,6 +1,6 @@
 //! A case of a file.
 
-use shape_core::Items;
+use shape_types::Items;
 
 /// What a run answers.
 #[derive(Drop)]

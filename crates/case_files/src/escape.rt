@@ -1,6 +1,6 @@
 //! The escapes of raw blocks.
 
-use shape_core::OutOfMemory;
+use shape_types::OutOfMemory;
 
 /// How far an escape was read.
 #[derive(Clone, Copy)]

@@ -1,7 +1,7 @@
 //! Why a file of cases is refused.
 ghost use Rattle.std.specs.Prelude.{◌≡◌};
 
-use shape_core::OutOfMemory;
+use shape_types::OutOfMemory;
 use std::fmt;
 
 /// What is wrong with a line of a file of cases.

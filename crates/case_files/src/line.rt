@@ -1,7 +1,7 @@
 //! The lines of a file.
 
 use crate::fault::{CaseFaultKind, ReadCasesError, fault};
-use shape_core::Items;
+use shape_types::Items;
 use std::alloc::Global;
 use std::str;
 

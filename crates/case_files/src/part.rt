@@ -4,7 +4,7 @@ ghost use Rattle.std.specs.Prelude.{◌≤◌, length};
 use crate::fault::{CaseFaultKind, ReadCasesError, fault};
 use crate::head::Head;
 use crate::line::Line;
-use shape_core::Items;
+use shape_types::Items;
 use std::alloc::Global;
 
 /// A head line and the lines of its block.

@@ -7,7 +7,7 @@ use crate::head::Head;
 use crate::line::lines_of;
 use crate::part::{Part, behind, parts_of};
 use crate::section::Section;
-use shape_core::Items;
+use shape_types::Items;
 use std::alloc::Global;
 
 /// The cases of a file, in their order.

@@ -2,7 +2,7 @@
 
 use crate::case::{Outcome, Title};
 use crate::difference::Difference;
-use shape_core::OutOfMemory;
+use shape_types::OutOfMemory;
 use std::alloc::Global;
 use std::str;
 

@@ -5,7 +5,7 @@ use crate::case::{Case, Given, Outcome, Title};
 use crate::fault::{CaseFaultKind, ReadCasesError, fault};
 use crate::head::Head;
 use crate::part::{Part, behind};
-use shape_core::{Items, OutOfMemory};
+use shape_types::{Items, OutOfMemory};
 use std::alloc::Global;
 
 /// A case: its first part, the others, and the shapes in force.

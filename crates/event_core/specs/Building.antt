@@ -1,7 +1,7 @@
 -- What is made of parts that are handed in.
 use Rattle.std.specs.Prelude.{◌≡◌, ℕ, List, [], Bool, true, false, Option, Some, None}
 use Rattle.std.specs.Option.{option_map}
-use Rattle.semantics.specs.Events.{Metadata}
+use Rattle.semantics_lines.specs.Events.{Metadata}
 use Rattle.event_core.specs.Metadata.{metadata_of, no_metadata}
 use Rattle.event_core.specs.declared.span.Span.{Span}
 use Rattle.event_core.specs.declared.path.PathSegment.{PathSegment}

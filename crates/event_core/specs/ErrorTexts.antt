@@ -2,7 +2,7 @@
 use Rattle.std.specs.Prelude.{ℕ, List, [], ◌∷◌, ◌++◌, take, Option, Some, None, codes}
 use Rattle.std.specs.List.{flat_map}
 use Rattle.std.specs.Fmt.{decimal, signed_decimal, debug_char, debug_list, ◌++?◌}
-use Rattle.shape_core.specs.Texts.{text_bytes}
+use Rattle.shape_types.specs.Texts.{text_bytes}
 use Rattle.event_core.specs.Texts.{span_text}
 use Rattle.event_core.specs.declared.path.PathSegment.{PathSegment}
 use Rattle.event_core.specs.declared.path.PathSegment.TheVariants as steps

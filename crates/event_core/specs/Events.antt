@@ -2,8 +2,8 @@
 use Rattle.std.specs.Prelude.{ℕ, List}
 use Rattle.std.specs.Option.{option_map}
 use Rattle.std.specs.Borrow.{Bor}
-use Rattle.semantics.specs.Events.{Note, Scalar, unit, null, bool, char, i64, u64, i128, u128, str, bytes, ordered, scalar, key, tag, of_struct, of_sequence, ContainerKind, object_kind, array_kind, Event, leaf, start, stop}
-use Rattle.shape_core.specs.Texts.{phrase_of, bytes_phrase}
+use Rattle.semantics_lines.specs.Events.{Note, Scalar, unit, null, bool, char, i64, u64, i128, u128, str, bytes, ordered, scalar, key, tag, of_struct, of_sequence, ContainerKind, object_kind, array_kind, Event, leaf, start, stop}
+use Rattle.shape_types.specs.Texts.{phrase_of, bytes_phrase}
 use Rattle.event_core.specs.Metadata.{note_view}
 use Rattle.event_core.specs.Keys.{key_of}
 use Rattle.event_core.specs.declared.event.ContainerKind.{ContainerKind as DeclaredContainer}

@@ -1,8 +1,8 @@
 -- Errors, as the definitions see them: what is wrong, where, and at which part of the value.
 use Rattle.std.specs.Prelude.{List, map, take, Some, None}
 use Rattle.std.specs.Option.{option_map}
-use Rattle.semantics.specs.Faults.{Step, field_step, index_step, variant_step, Refusal, uninitialized_field, parse_failed, no_such_variant, no_such_discriminant, wrong_kind, no_default, array_length, too_many_elements, key_form, refused_memory, FaultKind, unexpected_char, unexpected_eof, invalid_utf8, unexpected_token, type_mismatch, shape_mismatch, unknown_field, unknown_variant, no_matching_variant, missing_field, duplicate_field, number_out_of_range, invalid_value, cannot_borrow, reflect, unsupported, io_fault, solver_fault, validation, bug, out_of_memory, materialize, raw_capture, too_deep, Fault}
-use Rattle.shape_core.specs.Texts.{text_bytes}
+use Rattle.semantics_lines.specs.Faults.{Step, field_step, index_step, variant_step, Refusal, uninitialized_field, parse_failed, no_such_variant, no_such_discriminant, wrong_kind, no_default, array_length, too_many_elements, key_form, refused_memory, FaultKind, unexpected_char, unexpected_eof, invalid_utf8, unexpected_token, type_mismatch, shape_mismatch, unknown_field, unknown_variant, no_matching_variant, missing_field, duplicate_field, number_out_of_range, invalid_value, cannot_borrow, reflect, unsupported, io_fault, solver_fault, validation, bug, out_of_memory, materialize, raw_capture, too_deep, Fault}
+use Rattle.shape_types.specs.Texts.{text_bytes}
 use Rattle.event_core.specs.Metadata.{span_view}
 use Rattle.event_core.specs.declared.path.PathSegment.{PathSegment}
 use Rattle.event_core.specs.declared.path.PathSegment.TheVariants as steps

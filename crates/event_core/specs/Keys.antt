@@ -1,9 +1,9 @@
 -- Keys, as the definitions see them.
 use Rattle.std.specs.Prelude.{true, List, [], ◌∷◌, Option, Some, None}
 use Rattle.std.specs.Option.{option_map}
-use Rattle.semantics.specs.Texts.{Phrase}
-use Rattle.semantics.specs.Events.{Metadata, Note, Key, named, nameless}
-use Rattle.shape_core.specs.Texts.{phrase_of}
+use Rattle.semantics_lines.specs.Texts.{Phrase}
+use Rattle.semantics_lines.specs.Events.{Metadata, Note, Key, named, nameless}
+use Rattle.shape_types.specs.Texts.{phrase_of}
 use Rattle.event_core.specs.Metadata.{metadata_of, said}
 use Rattle.event_core.specs.declared.key.FieldLocationHint.{FieldLocationHint}
 use Rattle.event_core.specs.declared.key.FieldLocationHint.TheVariants.{KeyValue}

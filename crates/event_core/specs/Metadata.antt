@@ -1,10 +1,10 @@
 -- Places and metadata, as the definitions see them.
 use Rattle.std.specs.Prelude.{List, [], ◌∷◌, map, Option, Some, None}
 use Rattle.std.specs.Option.{option_map}
-use Rattle.semantics.specs.Texts.{Phrase}
-use Rattle.semantics.specs.Events.{Span, Metadata, Note}
-use Rattle.shape_core.specs.Texts.{phrase_of}
-use Rattle.shape_core.specs.declared.text.Text.{Text}
+use Rattle.semantics_lines.specs.Texts.{Phrase}
+use Rattle.semantics_lines.specs.Events.{Span, Metadata, Note}
+use Rattle.shape_types.specs.Texts.{phrase_of}
+use Rattle.shape_types.specs.declared.text.Text.{Text}
 use Rattle.event_core.specs.declared.span.Span.{Span as DeclaredSpan}
 use Rattle.event_core.specs.declared.metadata.ValueMeta.{ValueMeta}
 use Rattle.event_core.specs.declared.metadata.ValueMetaBuilder.{ValueMetaBuilder}

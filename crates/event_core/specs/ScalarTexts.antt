@@ -1,7 +1,7 @@
 -- What scalars are as texts.
 use Rattle.std.specs.Prelude.{ℕ, List, [], ◌++◌, Bool, true, false, Option, Some, None, codes, encode_utf8}
 use Rattle.std.specs.Fmt.{decimal, signed_decimal}
-use Rattle.shape_core.specs.Texts.{text_bytes}
+use Rattle.shape_types.specs.Texts.{text_bytes}
 use Rattle.event_core.specs.declared.scalar.ScalarValue.{ScalarValue}
 use Rattle.event_core.specs.declared.scalar.ScalarValue.TheVariants as scalars
 

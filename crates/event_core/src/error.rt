@@ -5,7 +5,7 @@ ghost use Rattle.event_core.specs.Building.{IsRefusedAs, is_memory, refused_span
 use crate::path::Path;
 use crate::reflect::{ReflectError, ReflectErrorKind};
 use crate::span::Span;
-use shape_core::{Name, ShapeName, Text};
+use shape_types::{Name, ShapeName, Text};
 use std::fmt::Debug;
 
 /// What is wrong with the input, or with the value that it holds. `'e` is how long its texts are borrowed.

@@ -5,7 +5,7 @@ ghost use Rattle.event_core.specs.ErrorTexts.{refusal_text, token_text, number_t
 
 use crate::error::{DeserializeError, DeserializeErrorKind, ParseError, SerializeError};
 use crate::reflect::ReflectErrorKind;
-use shape_core::Name;
+use shape_types::Name;
 use std::error::Error;
 use std::fmt;
 

@@ -9,7 +9,7 @@ use crate::key::FieldKey;
 use crate::metadata::{ValueMeta, ValueMetaBuilder};
 use crate::scalar::ScalarValue;
 use crate::span::Span;
-use shape_core::OutOfMemory;
+use shape_types::OutOfMemory;
 use std::alloc::Global;
 use std::fmt;
 

@@ -3,7 +3,7 @@ ghost use Rattle.std.specs.Prelude.{◌≡◌, IfOk, None, Some};
 
 use crate::key::FieldLocationHint;
 use crate::scalar::ScalarValue;
-use shape_core::{OutOfMemory, Text};
+use shape_types::{OutOfMemory, Text};
 use std::alloc::Global;
 
 /// What kind of value stands there.

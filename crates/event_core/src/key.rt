@@ -1,13 +1,13 @@
 //! What stands before the value of an entry.
 ghost use Rattle.std.specs.Prelude.{◌≡◌, [], IfOk, None, Some, map, option_copied, option_and_then};
 ghost use Rattle.std.specs.Option.{option_map};
-ghost use Rattle.shape_core.specs.Texts.{phrase_of};
+ghost use Rattle.shape_types.specs.Texts.{phrase_of};
 ghost use Rattle.event_core.specs.Metadata.{metadata_of, docs_told, tag_told};
 ghost use Rattle.event_core.specs.Keys.{key_name, key_metadata, key_location, parts_of, full_parts, documented_parts, empty_tag};
 ghost use Rattle.event_core.specs.declared.key.FieldKey.TheVariants.{Name, Full};
 
 use crate::metadata::{Docs, ValueMeta, clone_text};
-use shape_core::{Boxed, OutOfMemory, Text};
+use shape_types::{Boxed, OutOfMemory, Text};
 use std::alloc::Global;
 
 /// Where the value of a field stands.

@@ -1,11 +1,11 @@
 //! What is told of a value beside its content.
 ghost use Rattle.std.specs.Prelude.{◌≡◌, ◌↔◌, ◌++◌, [], ◌∷◌, Some, IsTrue, IfOk, OnOk, map, option_copied};
 ghost use Rattle.std.specs.Option.{option_map};
-ghost use Rattle.shape_core.specs.Texts.{phrase_of};
+ghost use Rattle.shape_types.specs.Texts.{phrase_of};
 ghost use Rattle.event_core.specs.Metadata.{span_view, lines_of, metadata_of, built, no_metadata, nonempty, told_or, given_or};
 
 use crate::span::Span;
-use shape_core::{Items, OutOfMemory, Text};
+use shape_types::{Items, OutOfMemory, Text};
 use std::alloc::Global;
 
 /// Lines of documentation.

@@ -4,7 +4,7 @@ ghost use Rattle.std.specs.List.{flat_map};
 ghost use Rattle.std.specs.Fmt.{DisplaysOnOk};
 ghost use Rattle.event_core.specs.ErrorTexts.{step_text};
 
-use shape_core::{Items, OutOfMemory, Text};
+use shape_types::{Items, OutOfMemory, Text};
 use std::alloc::Global;
 use std::fmt;
 use std::marker::Model;

@@ -5,7 +5,7 @@ ghost use Rattle.event_core.specs.Queued.{IsBounded, Took, came_back, empty_queu
 
 use crate::event::ParseEvent;
 use crate::steps::Steps;
-use shape_core::OutOfMemory;
+use shape_types::OutOfMemory;
 use std::alloc::Global;
 use std::collections::VecDeque;
 use std::marker::Model;

@@ -1,6 +1,6 @@
 //! Why a value can't be built.
 use crate::path::Path;
-use shape_core::{Name, ShapeName};
+use shape_types::{Name, ShapeName};
 
 /// Why a call that builds a value refused. `'e` is how long its texts are borrowed.
 #[derive(Drop)]

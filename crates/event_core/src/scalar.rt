@@ -3,7 +3,7 @@ ghost use Rattle.std.specs.Prelude.{◌≡◌, IfOk, IfSome, Some};
 ghost use Rattle.event_core.specs.Kinds.{scalar_name};
 ghost use Rattle.event_core.specs.ScalarTexts.{string_of, display_of, in_brackets};
 
-use shape_core::{Bytes, Name, OutOfMemory, Text};
+use shape_types::{Bytes, Name, OutOfMemory, Text};
 use std::alloc::Global;
 use std::fmt::Display;
 

@@ -9,7 +9,7 @@ mod queue;
 use event_core::{
     Docs, FieldKey, FieldLocationHint, Path, PathSegment, ScalarValue, Span, ValueMeta,
 };
-use shape_core::{Bytes, Items, Name, OutOfMemory, ShapeId, ShapeName, Text};
+use shape_types::{Bytes, Items, Name, OutOfMemory, ShapeId, ShapeName, Text};
 use std::alloc::Global;
 use std::fmt::{Debug, Display};
 use std::process::Abort;

@@ -2,8 +2,8 @@
 use Rattle.std.proofs.Common.{◌≡◌, ℕ, zero, suc, ◌<◌, ◌≤◌, List, [], ◌∷◌, ◌++◌, length, map, Bool, true, false, cond, Option, Some, None, refl, sym, ap, ◌∙◌, subst, arith, length-append, ◌⊎◌, inl, inr}
 use Rattle.std.specs.Prelude.{IsTrue, IsSome, IfSome}
 use Rattle.std.proofs.lemmas.List.{length-map}
-use Rattle.semantics.specs.Events.{Event}
-use Rattle.semantics.specs.Faults.{Fault, Ending, ends, stops, Coming}
+use Rattle.semantics_lines.specs.Events.{Event}
+use Rattle.semantics_lines.specs.Faults.{Fault, Ending, ends, stops, Coming}
 use Rattle.event_core.specs.Building.{is_memory}
 use Rattle.event_core.specs.Events.{event_of}
 use Rattle.event_core.specs.Faults.{parse_fault}

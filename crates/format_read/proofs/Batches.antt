@@ -2,8 +2,8 @@
 use Rattle.std.proofs.Common.{◌≡◌, ℕ, ◌<◌, List, [], ◌∷◌, ◌++◌, length, map, true, false, refl, sym, ap, ◌∙◌, subst, arith, Option, Some, None, length-append, ◌⊎◌, inl, inr}
 use Rattle.std.specs.Prelude.{IfSome}
 use Rattle.std.proofs.lemmas.List.{append-nil}
-use Rattle.semantics.specs.Events.{Event}
-use Rattle.semantics.specs.Faults.{Fault, Coming, out_of_memory, stops}
+use Rattle.semantics_lines.specs.Events.{Event}
+use Rattle.semantics_lines.specs.Faults.{Fault, Coming, out_of_memory, stops}
 use Rattle.event_core.specs.Building.{is_memory}
 use Rattle.event_core.specs.Events.{event_of}
 use Rattle.event_core.specs.Faults.{fault_kind_of, parse_fault}

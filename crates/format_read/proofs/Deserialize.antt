@@ -1,8 +1,8 @@
 -- From what the machine answers to what that means.
 use Rattle.std.proofs.Common.{◌≡◌, ◌⊎◌, inl, inr, ℕ, List, [], ◌++◌, Option, Some, None, Result, Ok, Err, sym, ap, ◌∙◌, subst}
-use Rattle.semantics.specs.Trees.{Tree}
-use Rattle.semantics.specs.Events.{Event}
-use Rattle.semantics.specs.Faults.{Fault}
+use Rattle.semantics_lines.specs.Trees.{Tree}
+use Rattle.semantics_lines.specs.Events.{Event}
+use Rattle.semantics_lines.specs.Faults.{Fault}
 use Rattle.semantics.specs.Registry.{IsRegistry}
 use Rattle.semantics.specs.Runs.{Run, run_events}
 use Rattle.semantics.specs.Reading.{from_events, read}

@@ -1,7 +1,7 @@
 -- What calls in turn leave of the events, and where their faults come from.
 use Rattle.std.proofs.Common.{◌≡◌, inl, inr, List, ◌++◌, [], Option, Some, None, refl, sym, ap, ◌∙◌, append_assoc, arith}
-use Rattle.semantics.specs.Events.{Event}
-use Rattle.semantics.specs.Faults.{Fault}
+use Rattle.semantics_lines.specs.Events.{Event}
+use Rattle.semantics_lines.specs.Faults.{Fault}
 use Rattle.read_steps.specs.Stops.{IsOwn}
 use Rattle.format_read.specs.Seats.{Seat, IsLeft, HasSource}
 

@@ -1,8 +1,8 @@
 -- What calls of a parser and its queue leave of the events to come.
 use Rattle.std.proofs.Common.{◌≡◌, ℕ, zero, suc, ◌+◌, ◌≤◌, List, [], ◌∷◌, ◌++◌, length, map, Option, Some, None, refl, sym, ap, ◌∙◌}
 use Rattle.std.proofs.lemmas.List.{map-append}
-use Rattle.semantics.specs.Events.{Event}
-use Rattle.semantics.specs.Faults.{Coming}
+use Rattle.semantics_lines.specs.Events.{Event}
+use Rattle.semantics_lines.specs.Faults.{Coming}
 use Rattle.event_core.specs.Events.{event_of}
 use Rattle.event_core.specs.Queued.{Queued, Took}
 use Rattle.event_core.specs.declared.event.ParseEvent.{ParseEvent}

@@ -2,10 +2,10 @@
 use Rattle.std.proofs.Common.{◌≡◌, ℕ, zero, suc, ◌<◌, List, [], ◌∷◌, length, map, Bool, true, false, Option, Some, None, Result, Ok, Err, refl, sym, ap, ◌∙◌, arith}
 use Rattle.std.specs.Prelude.{IsTrue, IsSome}
 use Rattle.std.specs.Option.{option_map}
-use Rattle.semantics.specs.Texts.{Phrase}
-use Rattle.semantics.specs.Events.{Span, Metadata, Note, key_note, Event, span_of}
-use Rattle.shape_core.specs.Texts.{phrase_of}
-use Rattle.semantics.specs.Faults.{Step, Fault, Coming}
+use Rattle.semantics_lines.specs.Texts.{Phrase}
+use Rattle.semantics_lines.specs.Events.{Span, Metadata, Note, key_note, Event, span_of}
+use Rattle.shape_types.specs.Texts.{phrase_of}
+use Rattle.semantics_lines.specs.Faults.{Step, Fault, Coming}
 use Rattle.event_core.specs.Events.{event_of, event_from}
 use Rattle.event_core.specs.Keys.{key_of, full_key}
 use Rattle.event_core.specs.Metadata.{span_view, metadata_of, note_view}

@@ -1,6 +1,6 @@
 -- A deserializer as its callers see it.
 use Rattle.std.specs.Prelude.{ℕ}
-use Rattle.shape_core.specs.Shapes.{registry}
+use Rattle.shape_types.specs.Shapes.{registry}
 use Rattle.format_traits.specs.Parsing.{Parsing}
 use Rattle.format_read.specs.declared.deserializer.FormatDeserializer.{FormatDeserializer}
 use Rattle.format_read.specs.Seats.{Owner, Seat, seat_of}

@@ -1,9 +1,9 @@
 -- What a deserializer answers, in the words of the definitions.
 use Rattle.std.specs.Prelude.{◌≡◌, ◌⊎◌, ℕ, Bool, true, List, [], ◌∷◌, ◌++◌, Option, Some, None, Result, Ok, Err, IsTrue}
-use Rattle.semantics.specs.Trees.{Tree}
-use Rattle.semantics.specs.Shapes.{Registry}
-use Rattle.semantics.specs.Events.{Event, span_of}
-use Rattle.semantics.specs.Faults.{out_of_memory, Fault, ends, stops}
+use Rattle.semantics_lines.specs.Trees.{Tree}
+use Rattle.semantics_lines.specs.Shapes.{Registry}
+use Rattle.semantics_lines.specs.Events.{Event, span_of}
+use Rattle.semantics_lines.specs.Faults.{out_of_memory, Fault, ends, stops}
 use Rattle.semantics.specs.Runs.{Run, run_events}
 use Rattle.semantics.specs.Typed.{typed}
 use Rattle.semantics.specs.Reading.{Setting, from_events, read}

@@ -1,8 +1,8 @@
 -- What a deserializer has still to read, and what its calls do to that.
 use Rattle.std.specs.Prelude.{◌≡◌, ◌≢◌, ◌≤◌, ◌⊎◌, ℕ, zero, suc, ◌+◌, List, [], ◌++◌, length, map, Option, Some, None}
-use Rattle.semantics.specs.Shapes.{Registry}
-use Rattle.semantics.specs.Events.{Span, Event}
-use Rattle.semantics.specs.Faults.{unexpected_eof, Fault, ends, Coming}
+use Rattle.semantics_lines.specs.Shapes.{Registry}
+use Rattle.semantics_lines.specs.Events.{Span, Event}
+use Rattle.semantics_lines.specs.Faults.{unexpected_eof, Fault, ends, Coming}
 use Rattle.event_core.specs.Events.{event_of}
 use Rattle.event_core.specs.Metadata.{span_view}
 use Rattle.event_core.specs.Queued.{Queued}

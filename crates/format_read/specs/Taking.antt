@@ -1,7 +1,7 @@
 -- Taking events one by one.
 use Rattle.std.specs.Prelude.{◌≡◌, ◌<◌, [], ◌∷◌, length, Option, Some, None, Result, Ok, Err, cond}
-use Rattle.semantics.specs.Events.{span_of}
-use Rattle.semantics.specs.Faults.{Fault, ends, stops}
+use Rattle.semantics_lines.specs.Events.{span_of}
+use Rattle.semantics_lines.specs.Faults.{Fault, ends, stops}
 use Rattle.event_core.specs.Building.{is_memory}
 use Rattle.event_core.specs.Events.{event_of}
 use Rattle.event_core.specs.Faults.{fault_of, parse_fault}

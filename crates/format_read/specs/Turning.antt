@@ -1,9 +1,9 @@
 -- One turn of the loop over the events: what the machine makes of the next one.
 use Rattle.std.specs.Prelude.{◌≡◌, ◌⊎◌, List, [], ◌∷◌, Option, Some, None, Result, Ok, Bool, false}
-use Rattle.semantics.specs.Events.{Span, Event}
-use Rattle.semantics.specs.Faults.{bug, Fault}
-use Rattle.shape_core.specs.Trees.{tree_of}
-use Rattle.shape_core.specs.declared.value.Value.{Value}
+use Rattle.semantics_lines.specs.Events.{Span, Event}
+use Rattle.semantics_lines.specs.Faults.{bug, Fault}
+use Rattle.shape_types.specs.Trees.{tree_of}
+use Rattle.shape_types.specs.declared.value.Value.{Value}
 use Rattle.event_core.specs.Events.{event_of}
 use Rattle.event_core.specs.declared.event.ParseEvent.{ParseEvent}
 use Rattle.laws_reading.specs.Input.{Input, ◌>>=◌, taken_at}

@@ -1,7 +1,7 @@
 -- Calls of a parser that doesn't tell its events.
 use Rattle.std.proofs.Common.{◌≡◌, ◌≢◌, ◌⊎◌, ℕ, zero, suc, ◌+◌, ◌<◌, ◌≤◌, List, [], ◌∷◌, ◌++◌, length, map, take, drop, min, Option, Some, None, refl, sym, ap, inl, inr, arith, length-drop, length-take-le}
 use Rattle.std.proofs.lemmas.List.{append-nil}
-use Rattle.semantics.specs.Faults.{Fault}
+use Rattle.semantics_lines.specs.Faults.{Fault}
 use Rattle.event_core.specs.Events.{event_of}
 use Rattle.event_core.specs.Faults.{parse_fault}
 use Rattle.event_core.specs.declared.event.ParseEvent.{ParseEvent}

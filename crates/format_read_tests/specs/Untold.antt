@@ -1,6 +1,6 @@
 -- A parser that doesn't tell its events, as the tests have one.
 use Rattle.std.specs.Prelude.{ℕ, true, List, [], ◌∷◌, length, Option, Some, None}
-use Rattle.semantics.specs.Faults.{Fault, io_fault}
+use Rattle.semantics_lines.specs.Faults.{Fault, io_fault}
 use Rattle.event_core.specs.Metadata.{span_view}
 use Rattle.event_core.specs.declared.span.Span.{Span}
 use Rattle.event_core.specs.declared.event.ParseEvent.{ParseEvent}

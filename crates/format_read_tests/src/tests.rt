@@ -1,6 +1,6 @@
 //! How far events are read ahead, and what is answered where they stop.
 ghost use Rattle.std.specs.Prelude.{◌<◌, length};
-ghost use Rattle.shape_core.specs.Shapes.{registry};
+ghost use Rattle.shape_types.specs.Shapes.{registry};
 
 mod listed;
 mod outcome;

@@ -2,8 +2,8 @@
 use Rattle.std.proofs.Common.{◌≡◌, ℕ, ◌+◌, ◌<◌, ◌≤◌, List, [], ◌∷◌, ◌++◌, map, refl, arith, ap, sym, ◌∙◌, Option, Some, None, append_assoc, length-append, ◌⊎◌, inl, inr}
 use Rattle.std.specs.Prelude.{IfSome}
 use Rattle.std.proofs.lemmas.List.{map-append, append-nil}
-use Rattle.semantics.specs.Events.{Event}
-use Rattle.semantics.specs.Faults.{Fault, Coming, ends, stops}
+use Rattle.semantics_lines.specs.Events.{Event}
+use Rattle.semantics_lines.specs.Faults.{Fault, Coming, ends, stops}
 use Rattle.event_core.specs.Events.{event_of}
 use Rattle.event_core.specs.Faults.{parse_fault}
 use Rattle.event_core.specs.declared.event.ParseEvent.{ParseEvent}

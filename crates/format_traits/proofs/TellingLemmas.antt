@@ -1,7 +1,7 @@
 -- Calls of a parser that tells its events: each fact from what comes before and after the call.
 use Rattle.std.proofs.Common.{◌≡◌, ℕ, ◌+◌, ◌≤◌, [], ◌∷◌, refl, arith, ap, sym, Option, Some, None}
-use Rattle.semantics.specs.Events.{Event}
-use Rattle.semantics.specs.Faults.{Coming, ends, stops}
+use Rattle.semantics_lines.specs.Events.{Event}
+use Rattle.semantics_lines.specs.Faults.{Coming, ends, stops}
 use Rattle.event_core.specs.Events.{event_of}
 use Rattle.event_core.specs.Faults.{parse_fault}
 use Rattle.event_core.specs.declared.event.ParseEvent.{ParseEvent}

@@ -1,8 +1,8 @@
 -- What a parser has still to give, and what its calls do to that.
 use Rattle.std.specs.Prelude.{ℕ, ◌+◌, ◌-◌, ◌^◌, ◌≤◌, ◌≡◌, ◌⊎◌, Bool, true, List, [], ◌∷◌, ◌++◌, length, min, Option, Some, None, Result, IfErr, IfSome, slice_get}
 use Rattle.std.specs.Option.{option_map}
-use Rattle.semantics.specs.Events.{Event}
-use Rattle.semantics.specs.Faults.{Fault, out_of_memory, Ending, ends, stops, Coming}
+use Rattle.semantics_lines.specs.Events.{Event}
+use Rattle.semantics_lines.specs.Faults.{Fault, out_of_memory, Ending, ends, stops, Coming}
 use Rattle.event_core.specs.Events.{event_of}
 use Rattle.event_core.specs.Faults.{fault_kind_of, parse_fault}
 use Rattle.event_core.specs.declared.event.ParseEvent.{ParseEvent}

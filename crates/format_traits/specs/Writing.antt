@@ -1,6 +1,6 @@
 -- What a call of a serializer does.
 use Rattle.std.specs.Prelude.{◌≡◌, ◌≤◌, ℕ, List, [], ◌∷◌, Result, Ok, Err}
-use Rattle.semantics.specs.Calls.{Call, Settings}
+use Rattle.semantics_lines.specs.Calls.{Call, Settings}
 use Rattle.format_traits.specs.Parsing.{Rose}
 use Rattle.format_traits.specs.declared.serializer.WriteStop.{WriteStop}
 use Rattle.format_traits.specs.declared.serializer.WriteStop.TheVariants.{Alloc, Fault}

@@ -1,7 +1,7 @@
 //! What a parser is told of what is read next.
 ghost use Rattle.std.specs.Prelude.{◌≡◌};
 
-use shape_core::{Name, StructKind};
+use shape_types::{Name, StructKind};
 
 /// A place that a parser can go back to.
 #[derive(Debug, Clone, Copy, PartialEq, Eq)]

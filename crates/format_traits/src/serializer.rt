@@ -1,6 +1,6 @@
 //! A writer of one format.
 ghost use Rattle.std.specs.Prelude.{◌≡◌, ◌++◌, List, []};
-ghost use Rattle.semantics.specs.Calls.{Call, begin_struct, field_key, end_struct, begin_seq, end_seq, write_scalar, literal_of};
+ghost use Rattle.semantics_lines.specs.Calls.{Call, begin_struct, field_key, end_struct, begin_seq, end_seq, write_scalar, literal_of};
 ghost use Rattle.event_core.specs.Events.{scalar_of};
 ghost use Rattle.format_traits.specs.Writing.{Writing, Answers};
 

@@ -1,17 +1,17 @@
 -- The calls of items and fields, from one of them on.
 use Rattle.std.proofs.Common.{ℕ, ◌≡◌, ◌≢◌, ◌≤◌, ◌<◌, ◌+◌, List, [], ◌∷◌, Bool, true, false, cond, Option, Some, None, zero, suc, refl, sym, ap, ◌∙◌, arith, get_or, length, map, drop}
 use Rattle.std.proofs.lemmas.List.{drop_all, drop_more}
-use Rattle.semantics.specs.Trees.{Tree, MapEntry, list, trees_of, tree_count}
-use Rattle.semantics.specs.Shapes.{effective_name}
-use Rattle.semantics.specs.Calls.{field_key}
+use Rattle.semantics_lines.specs.Trees.{Tree, MapEntry, list, trees_of, tree_count}
+use Rattle.semantics_lines.specs.Shapes.{effective_name}
+use Rattle.semantics_lines.specs.Calls.{field_key}
 use Rattle.semantics.specs.Typed.{has_length, item_at, length_at}
 use Rattle.semantics.specs.Calling.{Part, one_call, no_call, no_form, then, part_of, part_if, sequence_calls, Writer, calls_of, calls_of_each, calls_of_items, calls_of_fields}
-use Rattle.shape_core.specs.Shapes.{field_of}
-use Rattle.shape_core.specs.Trees.{tree_step, entry_step, tree_of}
-use Rattle.shape_core.specs.declared.value.Value.{Value, fold-roll-Value}
-use Rattle.shape_core.specs.declared.value.Value.TheVariants as value
-use Rattle.shape_core.specs.declared.value.Value.TheOpen.{Value-F}
-use Rattle.shape_core.specs.declared.field.Field.{Field}
+use Rattle.shape_types.specs.Shapes.{field_of}
+use Rattle.shape_types.specs.Trees.{tree_step, entry_step, tree_of}
+use Rattle.shape_types.specs.declared.value.Value.{Value, fold-roll-Value}
+use Rattle.shape_types.specs.declared.value.Value.TheVariants as value
+use Rattle.shape_types.specs.declared.value.Value.TheOpen.{Value-F}
+use Rattle.shape_types.specs.declared.field.Field.{Field}
 use Rattle.format_write.proofs.Steps.{then_assoc}
 
 -- as many trees as values

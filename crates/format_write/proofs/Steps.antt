@@ -1,7 +1,7 @@
 -- One part after another.
 use Rattle.std.proofs.Common.{◌≡◌, List, [], ◌++◌, Bool, true, false, Ok, Err, refl, sym, ap, ◌∙◌, arith, append_assoc, append-nil}
 use Rattle.std.specs.Prelude.{Result}
-use Rattle.semantics.specs.Calls.{Call, Settings}
+use Rattle.semantics_lines.specs.Calls.{Call, Settings}
 use Rattle.semantics.specs.Calling.{Part, no_form, then, then_if}
 use Rattle.format_traits.specs.Writing.{Writing, Kept, Stops}
 use Rattle.format_traits.specs.declared.serializer.WriteStop.{WriteStop}

@@ -1,6 +1,6 @@
 -- What a function of the writer does to its serializer.
 use Rattle.std.specs.Prelude.{◌≡◌, ℕ, ℤ, pos, negsuc, nat_lt, Bool, List, true, false, Result, Ok, Err}
-use Rattle.semantics.specs.Calls.{Call}
+use Rattle.semantics_lines.specs.Calls.{Call}
 use Rattle.semantics.specs.Calling.{Part}
 use Rattle.format_traits.specs.Writing.{Writing, Kept, Stops}
 use Rattle.format_write.specs.Wrote.{MadeFront}

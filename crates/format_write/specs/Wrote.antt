@@ -1,9 +1,9 @@
 -- What a call that writes a value does to its serializer.
 use Rattle.std.specs.Prelude.{◌≡◌, ◌++◌, List, true, false, Result, Ok, Err}
-use Rattle.semantics.specs.Calls.{Call, Settings}
+use Rattle.semantics_lines.specs.Calls.{Call, Settings}
 use Rattle.semantics.specs.Calling.{Part, Writer}
-use Rattle.shape_core.specs.Shapes.{registry}
-use Rattle.shape_core.specs.declared.shape.Shape.{Shape}
+use Rattle.shape_types.specs.Shapes.{registry}
+use Rattle.shape_types.specs.declared.shape.Shape.{Shape}
 use Rattle.event_core.specs.declared.error.SerializeError.{SerializeError}
 use Rattle.event_core.specs.declared.error.SerializeError.TheVariants.{Backend, Reflect, Unsupported, Internal, Alloc}
 use Rattle.format_traits.specs.Parsing.{Rose}

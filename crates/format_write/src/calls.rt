@@ -1,5 +1,5 @@
 //! The calls of a serializer, each as a part that is written.
-ghost use Rattle.semantics.specs.Calls.{begin_struct, field_key, end_struct, begin_seq, end_seq, write_scalar, literal_of};
+ghost use Rattle.semantics_lines.specs.Calls.{begin_struct, field_key, end_struct, begin_seq, end_seq, write_scalar, literal_of};
 ghost use Rattle.semantics.specs.Calling.{one_call};
 ghost use Rattle.event_core.specs.Events.{scalar_of};
 ghost use Rattle.format_write.specs.Writes.{Writes};

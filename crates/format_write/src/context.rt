@@ -1,7 +1,7 @@
 //! The calls that write a value.
 ghost use Rattle.std.specs.Prelude.{◌≡◌};
 ghost use Rattle.semantics.specs.Calling.{calls_of};
-ghost use Rattle.shape_core.specs.Trees.{tree_of};
+ghost use Rattle.shape_types.specs.Trees.{tree_of};
 ghost use Rattle.format_write.specs.Wrote.{Wrote, writer};
 
 use crate::stop::Stop;

@@ -1,8 +1,8 @@
 //! What the writer asks of shapes and fields.
 ghost use Rattle.std.specs.Prelude.{◌≡◌, None, cond, option_map};
-ghost use Rattle.semantics.specs.Shapes.{effective_name, is_tuple};
+ghost use Rattle.semantics_lines.specs.Shapes.{effective_name, is_tuple};
 ghost use Rattle.semantics.specs.Typed.{has_length, item_at, length_at};
-ghost use Rattle.shape_core.specs.Shapes.{field_of, registry, struct_kind_of};
+ghost use Rattle.shape_types.specs.Shapes.{field_of, registry, struct_kind_of};
 
 use shape_core::{Field, ShapeId, Shapes, StructKind};
 

@@ -1,10 +1,10 @@
 //! The scalars, each where its type takes it.
 ghost use Rattle.std.specs.Prelude.{◌≤◌, ◌^◌, option_map, nat_lt};
-ghost use Rattle.semantics.specs.Calls.{null_literal, bool_literal, char_literal, i64_literal, u64_literal, str_literal, write_scalar};
+ghost use Rattle.semantics_lines.specs.Calls.{null_literal, bool_literal, char_literal, i64_literal, u64_literal, str_literal, write_scalar};
 ghost use Rattle.semantics.specs.Calling.{one_call, part_of, scalar_calls};
 ghost use Rattle.semantics.specs.Typed.{takes_unit, takes_bool, takes_char, takes_text, takes_unsigned, takes_signed};
 ghost use Rattle.semantics.specs.Writing.{unsigned_literal, signed_literal};
-ghost use Rattle.shape_core.specs.Scalars.{scalar_type_of};
+ghost use Rattle.shape_types.specs.Scalars.{scalar_type_of};
 ghost use Rattle.format_write.specs.Writes.{Writes, is_within};
 
 use crate::calls;

@@ -1,9 +1,9 @@
 //! The values, level by level.
 ghost use Rattle.std.specs.Prelude.{map, codes};
-ghost use Rattle.semantics.specs.Trees.{trees_of};
+ghost use Rattle.semantics_lines.specs.Trees.{trees_of};
 ghost use Rattle.semantics.specs.Calling.{sequence_calls, object_calls, entry_calls, calls_of, calls_of_each, calls_of_items, calls_of_fields};
-ghost use Rattle.shape_core.specs.Shapes.{field_of};
-ghost use Rattle.shape_core.specs.Trees.{tree_of};
+ghost use Rattle.shape_types.specs.Shapes.{field_of};
+ghost use Rattle.shape_types.specs.Trees.{tree_of};
 ghost use Rattle.format_write.specs.Wrote.{writer};
 ghost use Rattle.format_write.specs.Writes.{Writes};
 

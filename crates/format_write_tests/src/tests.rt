@@ -1,6 +1,6 @@
 //! Where the writing stops, and that a context writes one value behind another.
 ghost use Rattle.semantics.specs.Calling.{calls_of};
-ghost use Rattle.shape_core.specs.Trees.{tree_of};
+ghost use Rattle.shape_types.specs.Trees.{tree_of};
 ghost use Rattle.format_write.specs.Wrote.{Wrote, writer};
 
 mod recorder;

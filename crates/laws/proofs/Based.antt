@@ -1,10 +1,10 @@
 -- What is said of a value at a shape depends on what the shape is made of alone, but for its transparent layers.
 use Rattle.std.proofs.Common.{◌≡◌, ℕ, suc, ◌+◌, ◌≤◌, Option, Some, true, cond, Ok, Err, codes, option_and_then, refl, sym, ap, ◌∙◌, subst, arith}
-use Rattle.semantics.specs.Trees.{Tree, unit_value, bool_value, char_value, unsigned, signed, text, none, some, ok, err, list, mapping, structure, variant, Trees, tree_count}
-use Rattle.semantics.specs.Shapes.{Definition, is_tuple, transparent_shape, Registry, definition_at}
+use Rattle.semantics_lines.specs.Trees.{Tree, unit_value, bool_value, char_value, unsigned, signed, text, none, some, ok, err, list, mapping, structure, variant, Trees, tree_count}
+use Rattle.semantics_lines.specs.Shapes.{Definition, is_tuple, transparent_shape, Registry, definition_at}
 use Rattle.semantics.specs.Registry.{IsRegistry}
-use Rattle.semantics.specs.Calls.{null_literal, bool_literal, char_literal, str_literal}
-use Rattle.semantics.specs.Documents.{Document, plain}
+use Rattle.semantics_lines.specs.Calls.{null_literal, bool_literal, char_literal, str_literal}
+use Rattle.semantics_lines.specs.Documents.{Document, plain}
 use Rattle.semantics.specs.Typed.{base, scalar_of, option_of, ok_of, err_of, item_of, length_of, struct_of, takes_unit, takes_bool, takes_char, takes_unsigned, takes_signed, takes_text, has_length}
 use Rattle.semantics.specs.Writing.{Written, unfit, of_form, where_fits, written_plain, unsigned_literal, signed_literal, written_sequence, written_object, written_under, write, write_each, write_items, write_fields}
 use Rattle.semantics.specs.Depths.{of_part, layers, depth, deepest, deepest_field}

@@ -9,7 +9,7 @@ use Rattle.std.specs.Prelude.{slice_get}
 use Rattle.std.specs.List.{list_any, IsDistinct, AllByRecursion as Every}
 use Rattle.std.specs.Option.{option_map_or}
 use Rattle.std.specs.Set.{is_member}
-use Rattle.semantics.specs.Shapes.{Definition, transparent_shape, Registry, definition_at}
+use Rattle.semantics_lines.specs.Shapes.{Definition, transparent_shape, Registry, definition_at}
 use Rattle.semantics.specs.Registry.{draft_steps, step_shapes, steps_from, steps_to, lies_on_cycle, drafted, IsRegistry}
 use Rattle.semantics.specs.Typed.{through, base_within, base}
 use Rattle.semantics.specs.Depths.{layer, layers_within, layers}

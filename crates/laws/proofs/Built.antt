@@ -4,8 +4,9 @@ use Rattle.std.proofs.lemmas.List.{length-map}
 use Rattle.std.proofs.lemmas.Option.{slice_get-map, slice_get_within}
 use Rattle.std.specs.Prelude.{slice_get}
 use Rattle.std.specs.List.{list_any, AllByRecursion as Every}
-use Rattle.semantics.specs.Shapes.{Field, StructShape, Definition, struct_shape, transparent_shape, Shape, Draft, Registry, definition_of, definition_at}
-use Rattle.semantics.specs.Registry.{not_built, never_skips, has_attribute, is_unbuilt, is_not_built, Rule, rules_of, first_broken, fault_of, lies_on_cycle, drafted, completed, completed_shapes, IsRegistry}
+use Rattle.semantics_lines.specs.Shapes.{Field, StructShape, Definition, struct_shape, transparent_shape, Shape, Draft, Registry, definition_of, definition_at}
+use Rattle.semantics_lines.specs.ShapeFaults.{not_built}
+use Rattle.semantics.specs.Registry.{never_skips, has_attribute, is_unbuilt, is_not_built, Rule, rules_of, first_broken, fault_of, lies_on_cycle, drafted, completed, completed_shapes, IsRegistry}
 use Rattle.semantics.specs.Typed.{through, base_within, base, struct_of, struct_at}
 
 -- a field that can be read and written

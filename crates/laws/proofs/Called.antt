@@ -3,15 +3,15 @@ use Rattle.std.proofs.Common.{◌≡◌, ℕ, List, [], ◌∷◌, ◌++◌, Opt
 use Rattle.std.proofs.lemmas.Grind.{flat_map-append}
 use Rattle.std.proofs.lemmas.List.{append-nil}
 use Rattle.std.specs.List.{flat_map}
-use Rattle.semantics.specs.Trees.{Tree, unit_value, bool_value, char_value, unsigned, signed, text, none, some, ok, err, list, structure, Trees, no_trees, tree, tree_count}
-use Rattle.semantics.specs.Shapes.{is_tuple, Field, effective_name}
-use Rattle.semantics.specs.Events.{no_note, of_struct, of_sequence, object_kind, array_kind, Event, start, stop}
-use Rattle.semantics.specs.Calls.{Literal, null_literal, bool_literal, char_literal, str_literal, begin_struct, end_struct, begin_seq, end_seq}
-use Rattle.semantics.specs.Documents.{Mark, free, Document, Documents, Members, key_event, document_events, documents_events, members_events}
+use Rattle.semantics_lines.specs.Trees.{Tree, unit_value, bool_value, char_value, unsigned, signed, text, none, some, ok, err, list, structure, Trees, no_trees, tree, tree_count}
+use Rattle.semantics_lines.specs.Shapes.{is_tuple, Field, effective_name}
+use Rattle.semantics_lines.specs.Events.{no_note, of_struct, of_sequence, object_kind, array_kind, Event, start, stop}
+use Rattle.semantics_lines.specs.Calls.{Literal, null_literal, bool_literal, char_literal, str_literal, begin_struct, end_struct, begin_seq, end_seq}
+use Rattle.semantics_lines.specs.Documents.{Mark, free, Document, Documents, Members, key_event, document_events, documents_events, members_events}
 use Rattle.semantics.specs.Typed.{scalar_at, option_at, ok_at, err_at, item_at, length_at, struct_at, takes_unit, takes_bool, takes_char, takes_unsigned, takes_signed, takes_text, has_length}
 use Rattle.semantics.specs.Writing.{Unwritten, Written, unfit_at, of_form, where_fits, written_plain, unsigned_literal, signed_literal, written_sequence, written_object, written_under, put_document, put_member, write, write_each, write_items, write_fields}
 use Rattle.semantics.specs.Calling.{Part, one_call, then_if, then, part_if, part_of, Writer, scalar_calls, sequence_calls, object_calls, entry_calls, calls_of, calls_of_each, calls_of_items, calls_of_fields}
-use Rattle.semantics.specs.Tapes.{call_events}
+use Rattle.semantics_lines.specs.Tapes.{call_events}
 
 abbrev pub told : Part → List Event
 told p = flat_map call_events p.calls

@@ -1,13 +1,13 @@
 -- What a value is written as, its entries in any order, is read as the value.
 use Rattle.std.proofs.Common.{◌≡◌, ℕ, zero, suc, ◌≤◌, List, [], ◌∷◌, length, Option, Some, None, Bool, true, false, cond, Ok, codes, option_map, option_and_then, refl, sym, ap, ap₂, ◌∙◌, subst, arith}
 use Rattle.std.specs.List.{AllByRecursion as Every}
-use Rattle.semantics.specs.Trees.{Tree, none, some, ok, err, list, structure, Trees, no_trees, tree, tree_count}
-use Rattle.semantics.specs.Shapes.{ScalarType, is_tuple, Field, StructShape, Definition, scalar_shape, option_shape, result_shape, list_shape, array_shape, struct_shape, transparent_shape, Registry, definition_at}
+use Rattle.semantics_lines.specs.Trees.{Tree, none, some, ok, err, list, structure, Trees, no_trees, tree, tree_count}
+use Rattle.semantics_lines.specs.Shapes.{ScalarType, is_tuple, Field, StructShape, Definition, scalar_shape, option_shape, result_shape, list_shape, array_shape, struct_shape, transparent_shape, Registry, definition_at}
 use Rattle.semantics.specs.Registry.{is_unbuilt, IsRegistry}
-use Rattle.semantics.specs.Calls.{null_literal}
-use Rattle.semantics.specs.Events.{no_note, named}
+use Rattle.semantics_lines.specs.Calls.{null_literal}
+use Rattle.semantics_lines.specs.Events.{no_note, named}
 use Rattle.semantics.specs.Runs.{Run, Entry}
-use Rattle.semantics.specs.Documents.{free, Document, plain, object, Documents, no_documents, document, no_members, member, on_tape}
+use Rattle.semantics_lines.specs.Documents.{free, Document, plain, object, Documents, no_documents, document, no_members, member, on_tape}
 use Rattle.semantics.specs.Typed.{base, has_length}
 use Rattle.semantics.specs.Writing.{where_fits, written_sequence, written_object, write, write_each, write_items, write_fields}
 use Rattle.semantics.specs.Reading.{Setting, from_events, Reader, plain_layout, read_option, read_scalar, read_sequence, read_each, read_items, by_outcome, read_result, read_elements, read_tuple, read_struct, read_object, and_trees, read_as, read_shape, read}

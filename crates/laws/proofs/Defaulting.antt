@@ -1,10 +1,11 @@
 -- The default of a shape is of that shape.
 use Rattle.std.proofs.Common.{◌≡◌, ℕ, Option, Some, None, true, false, ◌&&◌, option_and_then, refl, sym, ap, ◌∙◌}
-use Rattle.semantics.specs.Trees.{Tree, none, list, no_trees}
-use Rattle.semantics.specs.Shapes.{Definition, scalar_shape, option_shape, list_shape, struct_shape, Registry}
+use Rattle.semantics_lines.specs.Trees.{Tree, none, list, no_trees}
+use Rattle.semantics_lines.specs.Shapes.{Definition, scalar_shape, option_shape, list_shape, struct_shape, Registry}
 use Rattle.semantics.specs.Registry.{is_unbuilt, IsRegistry}
 use Rattle.semantics.specs.Typed.{on_some, base, option_of, item_of, length_of, has_length, typed}
-use Rattle.semantics.specs.Defaults.{scalar_default, default_of}
+use Rattle.semantics_lines.specs.Scalars.{scalar_default}
+use Rattle.semantics.specs.Defaults.{default_of}
 use Rattle.laws.proofs.Built.{built, base_defined, struct_declares_none}
 use Rattle.laws.proofs.ScalarTypes.{default_taken, taken_typed}
 

@@ -5,16 +5,16 @@ use Rattle.std.specs.Prelude.{zero, suc, ◌≤◌, nat_lt, slice_get, unwrap_or
 use Rattle.std.specs.Char.{encode_utf8}
 use Rattle.std.specs.List.{list_all, AllByRecursion as Every}
 use Rattle.std.specs.Str.{chars, is_utf8, all_scalars}
-use Rattle.semantics.specs.Trees.{Tree, unit_value, bool_value, char_value, unsigned, signed, text, none, some, ok, err, list, structure, Trees, no_trees, tree, tree_count}
-use Rattle.semantics.specs.Shapes.{bits8, bits16, bits32, bits64, bits128, address, ScalarType, unsigned_type, signed_type, is_tuple, Field, effective_name, StructShape, struct_shape, Shape, Registry}
-use Rattle.semantics.specs.Scalars.{fits_unsigned, fits_signed}
+use Rattle.semantics_lines.specs.Trees.{Tree, unit_value, bool_value, char_value, unsigned, signed, text, none, some, ok, err, list, structure, Trees, no_trees, tree, tree_count}
+use Rattle.semantics_lines.specs.Shapes.{bits8, bits16, bits32, bits64, bits128, address, ScalarType, unsigned_type, signed_type, is_tuple, Field, effective_name, StructShape, struct_shape, Shape, Registry}
+use Rattle.semantics_lines.specs.Scalars.{fits_unsigned, fits_signed}
 use Rattle.semantics.specs.Registry.{name_is_utf8, field_is_utf8, definition_is_utf8, shape_is_utf8, IsRegistry}
-use Rattle.semantics.specs.Calls.{Literal, null_literal, bool_literal, char_literal, i64_literal, u64_literal, str_literal}
-use Rattle.semantics.specs.Documents.{free, Document, plain, sequence, object, Documents, no_documents, document, Members, no_members, member, Member, member_list, Permuted, EachPermuted, Reordered}
+use Rattle.semantics_lines.specs.Calls.{Literal, null_literal, bool_literal, char_literal, i64_literal, u64_literal, str_literal}
+use Rattle.semantics_lines.specs.Documents.{free, Document, plain, sequence, object, Documents, no_documents, document, Members, no_members, member, Member, member_list, Permuted, EachPermuted, Reordered}
 use Rattle.semantics.specs.Typed.{scalar_at, option_at, ok_at, err_at, item_at, length_at, struct_at, takes_unit, takes_bool, takes_char, takes_unsigned, takes_signed, takes_text, has_length, tree_is_utf8, trees_are_utf8}
 use Rattle.semantics.specs.Writing.{unfit_at, Written, written_plain, unsigned_literal, signed_literal, written_sequence, written_object, written_under, write, write_each, write_items, write_fields}
 use Rattle.laws.proofs.Built.{BuiltField, struct_built, built, found_shape, struct_defined}
-use Rattle.laws.proofs.Tests.{is_both}
+use Rattle.laws_lines.proofs.Tests.{is_both}
 use Rattle.laws.proofs.Decimals.{unsigned_is_text, signed_is_text}
 use Rattle.laws.proofs.Mixes.{every_inserted}
 use Rattle.laws.proofs.Writes.{form_inverted, fits_inverted, plain_inverted, sequence_inverted, object_inverted, under_inverted, document_inverted, put_inverted}

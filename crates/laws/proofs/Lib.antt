@@ -2,7 +2,6 @@ pub mod Whole
 pub mod Built
 pub mod Bases
 pub mod Based
-pub mod Tests
 pub mod ScalarTypes
 pub mod Defaulting
 pub mod Typing
@@ -21,17 +20,8 @@ pub mod Rewritten
 pub mod Reached
 pub mod Canonical
 pub mod Reread
-pub mod LineReader
-pub mod LineLaws
 pub mod Fitting
 pub mod Taped
-pub mod Texts
-pub mod Escapes
-pub mod LineEnds
-pub mod OneTape
 pub mod Readable
-pub mod ShapeLineParts
-pub mod ShapeLineLaws
 pub mod ShapeTextLaws
-pub mod Divisions
 pub mod ShapeTextFaults

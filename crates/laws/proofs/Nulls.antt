@@ -1,10 +1,10 @@
 -- What is written of another shape than unit and the options is never null.
 use Rattle.std.proofs.Common.{◌≡◌, ℕ, [], ◌∷◌, length, Some, None, Option, Bool, true, false, cond, Ok, codes, refl, sym, ap, ◌∙◌}
-use Rattle.semantics.specs.Trees.{Tree, none, ok, err, list, structure, tree_count}
-use Rattle.semantics.specs.Shapes.{Definition, scalar_shape, option_shape, result_shape, list_shape, array_shape, set_shape, map_shape, struct_shape, enum_shape, transparent_shape, is_tuple, Registry}
-use Rattle.semantics.specs.Calls.{Literal, unit_literal, null_literal}
+use Rattle.semantics_lines.specs.Trees.{Tree, none, ok, err, list, structure, tree_count}
+use Rattle.semantics_lines.specs.Shapes.{Definition, scalar_shape, option_shape, result_shape, list_shape, array_shape, set_shape, map_shape, struct_shape, enum_shape, transparent_shape, is_tuple, Registry}
+use Rattle.semantics_lines.specs.Calls.{Literal, unit_literal, null_literal}
 use Rattle.semantics.specs.Runs.{Run}
-use Rattle.semantics.specs.Documents.{Document, plain, sequence, object, Documents, Members, scalar_of_literal}
+use Rattle.semantics_lines.specs.Documents.{Document, plain, sequence, object, Documents, Members, scalar_of_literal}
 use Rattle.semantics.specs.Typed.{base, on_some, has_length}
 use Rattle.semantics.specs.Writing.{Written, where_fits, written_sequence, written_object, write, write_each, write_items, write_fields}
 use Rattle.semantics.specs.Reading.{is_nothing, holds_nothing}

@@ -1,9 +1,9 @@
 -- Where the documents of the fields stand, whatever the keys are.
 use Rattle.std.proofs.Common.{◌≡◌, inl, ℕ, suc, List, [], ◌∷◌, ◌++◌, map, Option, Some, None, Bool, true, false, cond, Ok, Err, filter_map, is_some, refl, sym, ap, ◌∙◌, subst}
 use Rattle.std.specs.List.{cons_option, AllByRecursion as Every}
-use Rattle.semantics.specs.Trees.{Trees, no_trees, tree}
-use Rattle.semantics.specs.Shapes.{Field, effective_name, Registry, definition_at}
-use Rattle.semantics.specs.Documents.{free, Document, Members, no_members, member, Member, member_list}
+use Rattle.semantics_lines.specs.Trees.{Trees, no_trees, tree}
+use Rattle.semantics_lines.specs.Shapes.{Field, effective_name, Registry, definition_at}
+use Rattle.semantics_lines.specs.Documents.{free, Document, Members, no_members, member, Member, member_list}
 use Rattle.semantics.specs.Writing.{Written, write, write_fields}
 use Rattle.semantics.specs.Places.{Path, At, below, under, Choice}
 use Rattle.semantics.specs.Keys.{Declared, own_keys, InnerKeys, field_keys, keys_by, path_of, or_path, Plan}

@@ -1,17 +1,17 @@
 -- A valid tape is read, and recoded to the tape of its value's document.
 use Rattle.std.proofs.Common.{◌≡◌, ℕ, List, Ok, sym, ap, ◌∙◌, subst}
-use Rattle.semantics.specs.Trees.{Tree}
-use Rattle.semantics.specs.Shapes.{Registry}
+use Rattle.semantics_lines.specs.Trees.{Tree}
+use Rattle.semantics_lines.specs.Shapes.{Registry}
 use Rattle.semantics.specs.Registry.{IsRegistry}
-use Rattle.semantics.specs.Documents.{Document}
+use Rattle.semantics_lines.specs.Documents.{Document}
 use Rattle.semantics.specs.Reading.{Reads, from_events}
 use Rattle.semantics.specs.Writing.{Written, write}
-use Rattle.semantics.specs.Tapes.{document_tape, IsTape}
+use Rattle.semantics_lines.specs.Tapes.{document_tape, IsTape}
 use Rattle.semantics.specs.Recoding.{tape_setting, Recodes, IsReadable, IsValid}
 use Rattle.laws.proofs.Fitting.{permuted_fits, written_fits}
 use Rattle.laws.proofs.Taped.{form_taped}
 use Rattle.laws.proofs.Reread.{read_back, same_read}
-use Rattle.laws.proofs.OneTape.{one_tape}
+use Rattle.laws_lines.proofs.OneTape.{one_tape}
 
 pub readable : (g : Registry) → IsRegistry g → (root budget : ℕ) (input : List ℕ) (value : Tree) (document : Document) → IsValid g root budget input value document → IsReadable g root budget input document
 readable g checked root budget input value document valid =

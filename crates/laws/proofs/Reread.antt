@@ -1,10 +1,10 @@
 -- Events of a valid input are read back.
 use Rattle.std.proofs.Common.{◌≡◌, ℕ, List, [], ◌∷◌, ◌++◌, Option, Some, map, sym, ap, ◌∙◌}
 use Rattle.std.proofs.lemmas.List.{append-nil}
-use Rattle.semantics.specs.Trees.{Tree}
-use Rattle.semantics.specs.Events.{Event, unplaced}
+use Rattle.semantics_lines.specs.Trees.{Tree}
+use Rattle.semantics_lines.specs.Events.{Event, unplaced}
 use Rattle.semantics.specs.Runs.{run_events}
-use Rattle.semantics.specs.Documents.{document_events}
+use Rattle.semantics_lines.specs.Documents.{document_events}
 use Rattle.semantics.specs.Writing.{write}
 use Rattle.semantics.specs.Reading.{Setting, Source, from_events, read, Reads}
 use Rattle.laws.specs.Laws.{Valid, ReadsBack}

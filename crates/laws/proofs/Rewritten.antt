@@ -1,9 +1,9 @@
 -- Alike values are written alike.
 use Rattle.std.proofs.Common.{◌≡◌, ℕ, suc, List, ◌∷◌, Option, Some, None, cond, codes, refl, sym, ap, ap₂, ◌∙◌}
-use Rattle.semantics.specs.Trees.{Tree, text, some, ok, err, list, structure, Trees, no_trees, tree, tree_count}
-use Rattle.semantics.specs.Shapes.{is_tuple, Field, effective_name, Registry}
-use Rattle.semantics.specs.Calls.{str_literal}
-use Rattle.semantics.specs.Documents.{free}
+use Rattle.semantics_lines.specs.Trees.{Tree, text, some, ok, err, list, structure, Trees, no_trees, tree, tree_count}
+use Rattle.semantics_lines.specs.Shapes.{is_tuple, Field, effective_name, Registry}
+use Rattle.semantics_lines.specs.Calls.{str_literal}
+use Rattle.semantics_lines.specs.Documents.{free}
 use Rattle.semantics.specs.Typed.{scalar_at, option_at, ok_at, err_at, item_at, length_at, struct_at, takes_text, has_length}
 use Rattle.semantics.specs.Writing.{Unwritten, Written, unfit_at, of_form, where_fits, written_plain, written_sequence, written_object, written_under, put_document, put_member, write, write_each, write_items, write_fields}
 use Rattle.semantics.specs.Validity.{OnPart, Alike, EachAlike, FieldsAlike}

@@ -2,11 +2,13 @@
 use Rattle.std.proofs.Common.{◌≡◌, ℕ, suc, ◌+◌, ◌<◌, List, [], ◌∷◌, ◌++◌, length, true, false, Option, Some, None, refl, sym, ap, ◌∙◌, subst, arith, length-append}
 use Rattle.std.specs.List.{list_all}
 use Rattle.std.specs.Str.{is_utf8}
-use Rattle.semantics.specs.Shapes.{Draft}
-use Rattle.semantics.specs.Registry.{ShapeFault, ShapeFaultKind, fault_at, IsFirstFault}
-use Rattle.semantics.specs.ShapeLines.{ShapeLine, head_line, item_line, field_line, variant_line, is_line}
-use Rattle.semantics.specs.ShapeText.{spelled_before, lines_before, shape_text, head_names, is_head, shape_names, Place, may_stand, first_place, place_after, AreLines, all_names, is_known, shapes_of, ShapeTextKind, not_utf8, bad_line, out_of_place, unknown_ref, too_many, check, first_line, BeginsWith, IsRefusedBehind, IsShapeTextFault, at_line, at_reference, at_head}
-use Rattle.laws.proofs.ShapeTextLaws.{both, both_ways, one_line, never_empty, spelled_is_utf8, nothing_is_utf8, all_behind, one_head, stands_there, room_there, lines_same}
+use Rattle.semantics_lines.specs.Shapes.{Draft}
+use Rattle.semantics_lines.specs.ShapeFaults.{ShapeFault, ShapeFaultKind}
+use Rattle.semantics.specs.Registry.{fault_at, IsFirstFault}
+use Rattle.semantics_lines.specs.ShapeLines.{ShapeLine, head_line, item_line, field_line, variant_line, is_line}
+use Rattle.semantics_lines.specs.ShapeText.{spelled_before, lines_before, shape_text, head_names, is_head, shape_names, Place, may_stand, first_place, place_after, AreLines, all_names, is_known, shapes_of, ShapeTextKind, not_utf8, bad_line, out_of_place, unknown_ref, too_many, check, first_line, BeginsWith, IsRefusedBehind}
+use Rattle.semantics.specs.CheckedText.{IsShapeTextFault, at_line, at_reference, at_head}
+use Rattle.laws_lines.proofs.ShapeTextLines.{both, both_ways, one_line, never_empty, spelled_is_utf8, nothing_is_utf8, all_behind, one_head, stands_there, room_there, lines_same}
 
 -- of two fronts of one text one begins with the other
 data Fronts (before after : List ShapeLine) (left right : List ℕ) : Type 0 where

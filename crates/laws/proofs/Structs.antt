@@ -4,11 +4,11 @@ use Rattle.std.proofs.lemmas.Bool.{ne_eqb}
 use Rattle.std.proofs.lemmas.List.{append-nil}
 use Rattle.std.proofs.lemmas.List.Elements.{filter_map-append}
 use Rattle.std.specs.List.{cons_option, AllByRecursion as Every}
-use Rattle.semantics.specs.Trees.{Tree, structure, Trees, no_trees, tree}
-use Rattle.semantics.specs.Shapes.{Field, effective_name, Registry, definition_at}
-use Rattle.semantics.specs.Events.{Note, named}
+use Rattle.semantics_lines.specs.Trees.{Tree, structure, Trees, no_trees, tree}
+use Rattle.semantics_lines.specs.Shapes.{Field, effective_name, Registry, definition_at}
+use Rattle.semantics_lines.specs.Events.{Note, named}
 use Rattle.semantics.specs.Runs.{Run, Entry}
-use Rattle.semantics.specs.Documents.{free, Document, Members, Member, member_list, on_tape}
+use Rattle.semantics_lines.specs.Documents.{free, Document, Members, Member, member_list, on_tape}
 use Rattle.semantics.specs.Writing.{Written, write, write_fields}
 use Rattle.semantics.specs.Places.{Path, rest_of, rest_at, below, has_whole, Choice}
 use Rattle.semantics.specs.Keys.{flat_keys, keys, Layout, Plan, plan_of, leads, after_key, Placed, with_entry, placed, is_allowed, are_allowed}

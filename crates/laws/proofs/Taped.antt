@@ -7,15 +7,15 @@ use Rattle.std.specs.Char.{encode_utf8}
 use Rattle.std.specs.List.{flat_map, AllByRecursion as Every}
 use Rattle.std.specs.Fmt.{decimal, signed_decimal}
 use Rattle.std.specs.Str.{chars, is_utf8, all_scalars}
-use Rattle.semantics.specs.Shapes.{bits64, bits128}
-use Rattle.semantics.specs.Scalars.{fits_unsigned, fits_signed}
-use Rattle.semantics.specs.Calls.{Literal, null_literal, bool_literal, char_literal, i64_literal, u64_literal, str_literal}
-use Rattle.semantics.specs.Events.{Span, Note, no_note, scalar, named, key, of_struct, of_sequence, object_kind, array_kind, Event, leaf, start, stop, span_of, unplaced}
-use Rattle.semantics.specs.Documents.{Document, plain, sequence, object, Documents, no_documents, document, Members, no_members, member, on_tape, scalar_of_literal, scalar_event, key_event, document_events, documents_events, members_events}
-use Rattle.semantics.specs.Lines.{escape, quoted, after, magnitude, bool_word, scalar_line, line_of, IsTapeScalar, IsLineOf}
-use Rattle.semantics.specs.Tapes.{ended, tape, document_tape, line_span, IsTapeFrom, IsTape}
+use Rattle.semantics_lines.specs.Shapes.{bits64, bits128}
+use Rattle.semantics_lines.specs.Scalars.{fits_unsigned, fits_signed}
+use Rattle.semantics_lines.specs.Calls.{Literal, null_literal, bool_literal, char_literal, i64_literal, u64_literal, str_literal}
+use Rattle.semantics_lines.specs.Events.{Span, Note, no_note, scalar, named, key, of_struct, of_sequence, object_kind, array_kind, Event, leaf, start, stop, span_of, unplaced}
+use Rattle.semantics_lines.specs.Documents.{Document, plain, sequence, object, Documents, no_documents, document, Members, no_members, member, on_tape, scalar_of_literal, scalar_event, key_event, document_events, documents_events, members_events}
+use Rattle.semantics_lines.specs.Lines.{escape, quoted, after, magnitude, bool_word, scalar_line, line_of, IsTapeScalar, IsLineOf}
+use Rattle.semantics_lines.specs.Tapes.{ended, tape, document_tape, line_span, IsTapeFrom, IsTape}
 use Rattle.laws.proofs.Decimals.{joined_text, unsigned_is_text, signed_is_text}
-use Rattle.laws.proofs.Escapes.{spelled_text}
+use Rattle.laws_lines.proofs.Escapes.{spelled_text}
 use Rattle.laws.proofs.Fitting.{IsKeyText, FitsLiteral, Fits, DocumentsFit, MembersFit}
 
 -- the event has a line, wherever it stands

@@ -1,17 +1,17 @@
 -- What is read is of its shape.
 use Rattle.std.proofs.Common.{◌≡◌, ◌⊎◌, inl, inr, ℕ, zero, suc, List, [], ◌∷◌, Option, Some, None, Bool, true, false, cond, not, ◌&&◌, length, option_map, option_and_then, bytes_eq, codes, refl, sym, ap, ap₂, ◌∙◌}
 use Rattle.std.specs.List.{AllByRecursion as Every}
-use Rattle.semantics.specs.Trees.{Tree, unit_value, bool_value, char_value, unsigned, signed, text, none, some, ok, err, list, structure, Trees, no_trees, tree, tree_count}
-use Rattle.semantics.specs.Shapes.{is_tuple, Field, StructShape, Definition, scalar_shape, option_shape, result_shape, list_shape, array_shape, struct_shape, transparent_shape, Registry, definition_at}
+use Rattle.semantics_lines.specs.Trees.{Tree, unit_value, bool_value, char_value, unsigned, signed, text, none, some, ok, err, list, structure, Trees, no_trees, tree, tree_count}
+use Rattle.semantics_lines.specs.Shapes.{is_tuple, Field, StructShape, Definition, scalar_shape, option_shape, result_shape, list_shape, array_shape, struct_shape, transparent_shape, Registry, definition_at}
 use Rattle.semantics.specs.Registry.{has_some, is_unbuilt, IsRegistry}
-use Rattle.semantics.specs.Events.{Key, named, nameless, ordered, of_struct, of_sequence, object_kind, array_kind}
+use Rattle.semantics_lines.specs.Events.{Key, named, nameless, ordered, of_struct, of_sequence, object_kind, array_kind}
 use Rattle.semantics.specs.Runs.{Run, one, group, tagged, Entry, entries, items}
 use Rattle.semantics.specs.Typed.{on_some, base, scalar_of, option_of, ok_of, err_of, item_of, length_of, struct_of, takes_unit, takes_bool, takes_char, takes_unsigned, takes_signed, takes_text, has_length, typed, each_typed, fields_typed}
 use Rattle.semantics.specs.Numerals.{only}
 use Rattle.semantics.specs.Places.{At, below, has_whole, Choice}
 use Rattle.semantics.specs.Keys.{Layout, plan_of, placed, are_allowed}
 use Rattle.semantics.specs.Reading.{Setting, Source, from_events, Reader, of_shape, Parts, by_run, absent, or_value, fill, read_own, FlatReader, in_parts, read_field, and_trees, read_fields, read_flat, read_layout, read_entries, read_struct, read_object, plain_layout, holds_nothing, is_nothing, read_option, read_sequence, read_each, read_items, by_outcome, read_outcome, read_result, read_elements, entry_runs, read_tuple, read_as, read_shape, read}
-use Rattle.laws.proofs.Tests.{both, is_both, if_true, mapped, bound}
+use Rattle.laws_lines.proofs.Tests.{both, is_both, if_true, mapped, bound}
 use Rattle.laws.proofs.Built.{BuiltField, struct_built, built, base_is}
 use Rattle.laws.proofs.Bases.{base_inner}
 use Rattle.laws.proofs.ScalarTypes.{taken_typed, scalar_taken}

@@ -1,7 +1,7 @@
 -- What documents that are there were made of.
 use Rattle.std.proofs.Common.{◌≡◌, List, Option, Some, None, Bool, true, false, Ok, Err, ℕ, refl}
-use Rattle.semantics.specs.Calls.{Literal}
-use Rattle.semantics.specs.Documents.{Mark, free, Document, plain, sequence, object, Documents, document, Members, no_members, member}
+use Rattle.semantics_lines.specs.Calls.{Literal}
+use Rattle.semantics_lines.specs.Documents.{Mark, free, Document, plain, sequence, object, Documents, document, Members, no_members, member}
 use Rattle.semantics.specs.Writing.{Unwritten, Written, of_form, where_fits, written_plain, written_sequence, written_object, written_under, put_document, put_member}
 
 -- the shape has the part

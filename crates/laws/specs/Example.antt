@@ -1,19 +1,19 @@
 -- The definitions on a small example: a struct of two numbers.
 use Rattle.std.specs.Prelude.{◌≡◌, ℕ, List, [], ◌∷◌, ◌++◌, true, false, Some, None, Ok, codes}
 use Rattle.std.specs.List.{flat_map}
-use Rattle.semantics.specs.Trees.{Tree, unsigned, structure, no_trees, tree}
-use Rattle.semantics.specs.Shapes.{bits8, bits16, bits32, bits64, bits128, address, ScalarType, unit_type, bool_type, char_type, unsigned_type, signed_type, string_type, str_type, named_kind, skip_never, Field, scalar_shape, struct_shape, Shape, Registry}
-use Rattle.semantics.specs.Scalars.{u64_number}
-use Rattle.semantics.specs.Events.{Note, no_note, u64, named, scalar, key, of_struct, object_kind, Event, leaf, start, stop}
+use Rattle.semantics_lines.specs.Trees.{Tree, unsigned, structure, no_trees, tree}
+use Rattle.semantics_lines.specs.Shapes.{bits8, bits16, bits32, bits64, bits128, address, ScalarType, unit_type, bool_type, char_type, unsigned_type, signed_type, string_type, str_type, named_kind, skip_never, Field, scalar_shape, struct_shape, Shape, Registry}
+use Rattle.semantics_lines.specs.Scalars.{u64_number}
+use Rattle.semantics_lines.specs.Events.{Note, no_note, u64, named, scalar, key, of_struct, object_kind, Event, leaf, start, stop}
 use Rattle.semantics.specs.Runs.{Inside, close, loose, Run, group}
 use Rattle.semantics.specs.Registry.{IsRegistry}
-use Rattle.semantics.specs.Calls.{u64_literal}
-use Rattle.semantics.specs.Documents.{free, Document, plain, object, no_members, member, on_tape}
+use Rattle.semantics_lines.specs.Calls.{u64_literal}
+use Rattle.semantics_lines.specs.Documents.{free, Document, plain, object, no_members, member, on_tape}
 use Rattle.semantics.specs.Typed.{typed}
 use Rattle.semantics.specs.Writing.{write}
 use Rattle.semantics.specs.Reading.{Setting, from_events, read}
 use Rattle.semantics.specs.Depths.{depth}
-use Rattle.semantics.specs.Tapes.{document_tape, IsTape}
+use Rattle.semantics_lines.specs.Tapes.{document_tape, IsTape}
 
 abbrev pub scalar_row : List ℕ → ScalarType → Shape
 scalar_row name type = record { name = name; definition = scalar_shape type; proxy = None }

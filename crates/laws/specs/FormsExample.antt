@@ -1,11 +1,11 @@
 -- The definitions on a small value of each form.
 use Rattle.std.specs.Prelude.{◌≡◌, ℕ, pos, negsuc, List, [], ◌∷◌, ◌++◌, true, false, Option, Some, None, Ok, Err, codes}
-use Rattle.semantics.specs.Trees.{Tree, unit_value, bool_value, char_value, unsigned, signed, text, none, some, ok, err, list, structure, no_trees, tree}
-use Rattle.semantics.specs.Shapes.{unit_kind, tuple_struct_kind, skip_never, Field, Definition, option_shape, result_shape, list_shape, array_shape, struct_shape, transparent_shape, Shape, Registry}
-use Rattle.semantics.specs.Events.{no_note, Scalar, null, bool, char, i64, u64, str, named, of_struct, of_sequence, object_kind, array_kind, scalar, key}
+use Rattle.semantics_lines.specs.Trees.{Tree, unit_value, bool_value, char_value, unsigned, signed, text, none, some, ok, err, list, structure, no_trees, tree}
+use Rattle.semantics_lines.specs.Shapes.{unit_kind, tuple_struct_kind, skip_never, Field, Definition, option_shape, result_shape, list_shape, array_shape, struct_shape, transparent_shape, Shape, Registry}
+use Rattle.semantics_lines.specs.Events.{no_note, Scalar, null, bool, char, i64, u64, str, named, of_struct, of_sequence, object_kind, array_kind, scalar, key}
 use Rattle.semantics.specs.Runs.{Inside, close, loose, Run, one, group}
-use Rattle.semantics.specs.Calls.{null_literal, bool_literal, char_literal, i64_literal, u64_literal, str_literal}
-use Rattle.semantics.specs.Documents.{free, plain, sequence, object, no_documents, document, no_members, member, on_tape}
+use Rattle.semantics_lines.specs.Calls.{null_literal, bool_literal, char_literal, i64_literal, u64_literal, str_literal}
+use Rattle.semantics_lines.specs.Documents.{free, plain, sequence, object, no_documents, document, no_members, member, on_tape}
 use Rattle.semantics.specs.Typed.{typed}
 use Rattle.semantics.specs.Writing.{not_typed, write}
 use Rattle.semantics.specs.Reading.{Setting, from_events, read}

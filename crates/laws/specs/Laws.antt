@@ -1,17 +1,14 @@
 -- What holds of the definitions.
-use Rattle.std.specs.Prelude.{◌≡◌, ◌↔◌, ℕ, ◌≤◌, List, ◌++◌, map, true, false, Some, Ok, IsTrue, MatchResult}
-use Rattle.semantics.specs.Trees.{Tree}
-use Rattle.semantics.specs.Shapes.{Registry}
-use Rattle.semantics.specs.Shapes.{Draft}
-use Rattle.semantics.specs.Divided.{joined, IsDivided}
-use Rattle.semantics.specs.ShapeLines.{ShapeLine, spelling, has_parts}
-use Rattle.laws.specs.ShapeLineReading.{line_of as shape_line_of}
-use Rattle.semantics.specs.ShapeText.{IsShapeText, ShapeTextKind, IsShapeTextFault}
+use Rattle.std.specs.Prelude.{◌≡◌, ℕ, ◌≤◌, List, ◌++◌, map, true, false, Some, Ok, IsTrue, MatchResult}
+use Rattle.semantics_lines.specs.Trees.{Tree}
+use Rattle.semantics_lines.specs.Shapes.{Registry}
+use Rattle.semantics_lines.specs.Shapes.{Draft}
+use Rattle.semantics.specs.CheckedText.{IsShapeText, IsShapeTextFault}
+use Rattle.semantics_lines.specs.ShapeText.{ShapeTextKind}
 use Rattle.semantics.specs.Registry.{IsRegistry}
-use Rattle.semantics.specs.Events.{Event, content_of, unplaced}
+use Rattle.semantics_lines.specs.Events.{Event, unplaced}
 use Rattle.semantics.specs.Runs.{Run, run_events}
-use Rattle.semantics.specs.Lines.{line_of}
-use Rattle.semantics.specs.Documents.{Document, Permuted, document_events}
+use Rattle.semantics_lines.specs.Documents.{Document, Permuted, document_events}
 use Rattle.semantics.specs.Typed.{typed, tree_is_utf8}
 use Rattle.semantics.specs.Defaults.{default_at}
 use Rattle.semantics.specs.Writing.{write}
@@ -19,16 +16,12 @@ use Rattle.semantics.specs.Calling.{Writer, calls_of}
 use Rattle.semantics.specs.Reading.{Setting, Source, from_events, read, Reads}
 use Rattle.semantics.specs.Depths.{depth}
 use Rattle.semantics.specs.Validity.{every_clash, Separable, Clean, Alike}
-use Rattle.semantics.specs.Tapes.{document_tape, IsTape, calls_tape}
+use Rattle.semantics_lines.specs.Tapes.{document_tape, IsTape, calls_tape}
 use Rattle.semantics.specs.Recoding.{Recodes, IsReadable, IsValid}
 
 -- Of the whole runs that begin one list of events there is at most one.
 abbrev pub OneRun : Type 0
 OneRun = (r u : Run) (x y : List Event) → run_events r ++ x ≡ run_events u ++ y → (r ≡ u) × (x ≡ y)
-
--- Two events that share a line say the same, wherever they stand and whatever their texts are borrowed from.
-abbrev pub OneEvent : Type 0
-OneEvent = (a b : Event) (line : List ℕ) → line_of a ≡ Some line → line_of b ≡ Some line → content_of a ≡ content_of b
 
 -- Events are read as one value at most.
 abbrev pub OneValue : Type 0
@@ -93,10 +86,6 @@ abbrev pub ValidIsReadable : Type 0
 ValidIsReadable = (g : Registry) → IsRegistry g → (root budget : ℕ) (input : List ℕ) (value : Tree) (document : Document)
     → IsValid g root budget input value document → IsReadable g root budget input document
 
--- Bytes are the tape of one list of events at most.
-abbrev pub OneTape : Type 0
-OneTape = (events other : List Event) (input : List ℕ) → IsTape events input → IsTape other input → events ≡ other
-
 -- Whatever a valid tape is recoded to is the tape of its value's document.
 abbrev pub RecodesToForm : Type 0
 RecodesToForm = (g : Registry) → IsRegistry g → (root budget : ℕ) (input out : List ℕ) (value : Tree) (document : Document)
@@ -112,15 +101,6 @@ FormIsValid = (g : Registry) (root budget : ℕ) (value : Tree) (document : Docu
 abbrev pub OneShapeText : Type 0
 OneShapeText = (text : List ℕ) (a : List Draft) → IsShapeText text a
     → ((b : List Draft) → IsShapeText text b → a ≡ b) × ((line : ℕ) (kind : ShapeTextKind) → IsShapeTextFault text line kind → ⊥)
-
--- A line of a shape text has one spelling, is spelled by no other line, and is read from the left as what it says.
-abbrev pub OneShapeLine : Type 0
-OneShapeLine = ((l m : ShapeLine) → IsTrue (has_parts l) → IsTrue (has_parts m) → spelling l ≡ spelling m → l ≡ m)
-    × ((text : List ℕ) (l : ShapeLine) → (shape_line_of text ≡ Some l) ↔ (IsTrue (has_parts l) × (text ≡ spelling l)))
-
--- An input is divided into one shape text and one tape.
-abbrev pub OneDivision : Type 0
-OneDivision = (input : List ℕ) (ls ms : List (List ℕ)) (r s : List ℕ) → IsDivided input ls r → IsDivided input ms s → (joined ls ≡ joined ms) × (r ≡ s)
 
 -- A text has at most one first fault.
 abbrev pub OneShapeTextFault : Type 0

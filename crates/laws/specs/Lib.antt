@@ -1,4 +1,3 @@
 pub mod Laws
 pub mod Example
 pub mod FormsExample
-pub mod ShapeLineReading

@@ -1,6 +1,7 @@
 //! What holds of the definitions: each law is the contract of a function that does nothing.
 //!
-//! The statements stand in `specs/Laws.antt`, over the definitions of `semantics` alone.
+//! The statements stand in `specs/Laws.antt`, over the definitions of `semantics` and `semantics_lines`. Those of lines
+//! alone stand in `laws_lines`.
 #![tactic(auto)]
 
 ghost use Rattle.laws.specs.Laws.{
@@ -9,14 +10,10 @@ ghost use Rattle.laws.specs.Laws.{
   DefaultIsTyped,
   FormIsValid,
   FormsAreTapes,
-  OneDivision,
-  OneEvent,
   OneOutput,
   OneRun,
-  OneShapeLine,
   OneShapeText,
   OneShapeTextFault,
-  OneTape,
   OneValue,
   ReadsTyped,
   RecodesToForm,
@@ -28,16 +25,6 @@ ghost use Rattle.laws.specs.FormsExample.{FormsExample};
 /// At most one whole run begins a list of events.
 pub fn one_run()
     ensures { OneRun }
-{}
-
-/// A line is the line of one event, over the whole grammar.
-pub fn one_event()
-    ensures { OneEvent }
-{}
-
-/// Bytes are the tape of at most one list of events.
-pub fn one_tape()
-    ensures { OneTape }
 {}
 
 /// What the definitions say of a struct of two numbers.
@@ -101,11 +88,6 @@ pub fn form_is_valid()
     ensures { FormIsValid }
 {}
 
-/// A line of a shape text is spelled in one way, and read as what it says.
-pub fn one_shape_line()
-    ensures { OneShapeLine }
-{}
-
 /// A shape text has one meaning.
 pub fn one_shape_text()
     ensures { OneShapeText }
@@ -114,9 +96,4 @@ pub fn one_shape_text()
 /// A shape text has at most one first fault.
 pub fn one_shape_text_fault()
     ensures { OneShapeTextFault }
-{}
-
-/// An input is divided in one way.
-pub fn one_division()
-    ensures { OneDivision }
 {}

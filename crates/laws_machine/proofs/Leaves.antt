@@ -1,9 +1,9 @@
 -- Where the faults of a step stand.
 use Rattle.std.proofs.Common.{◌≡◌, inl, inr, ℕ, zero, suc, ◌+◌, List, [], ◌∷◌, ◌++◌, length, drop, slice_get, Option, Some, None, Result, Ok, Err, Bool, true, false, cond, not, ◌&&◌, ap}
-use Rattle.semantics.specs.Trees.{Tree, structure, none, some, trees_of}
-use Rattle.semantics.specs.Shapes.{Field, StructShape, is_tuple, Registry, Definition, scalar_shape, option_shape, result_shape, list_shape, array_shape, set_shape, map_shape, struct_shape, enum_shape, transparent_shape, definition_at}
-use Rattle.semantics.specs.Events.{Span, no_span, Key, key_note, scalar, key, tag, of_struct, of_sequence, object_kind, array_kind, Event, leaf, start, stop, span_of}
-use Rattle.semantics.specs.Faults.{Step, FaultKind, Fault, duplicate_field}
+use Rattle.semantics_lines.specs.Trees.{Tree, structure, none, some, trees_of}
+use Rattle.semantics_lines.specs.Shapes.{Field, StructShape, is_tuple, Registry, Definition, scalar_shape, option_shape, result_shape, list_shape, array_shape, set_shape, map_shape, struct_shape, enum_shape, transparent_shape, definition_at}
+use Rattle.semantics_lines.specs.Events.{Span, no_span, Key, key_note, scalar, key, tag, of_struct, of_sequence, object_kind, array_kind, Event, leaf, start, stop, span_of}
+use Rattle.semantics_lines.specs.Faults.{Step, FaultKind, Fault, duplicate_field}
 use Rattle.semantics.specs.Places.{Path, At as Placed, below, has_whole, Choice}
 use Rattle.semantics.specs.Keys.{leads, is_allowed}
 use Rattle.semantics.specs.Registry.{has_some}

@@ -1,8 +1,8 @@
 -- Lists and arrays.
 use Rattle.std.proofs.Common.{◌≡◌, ℕ, zero, suc, ◌+◌, ◌<◌, List, [], ◌∷◌, ◌++◌, length, Option, Some, None, Result, Ok, Err, Bool, true, false, refl, ◌∙◌, arith}
-use Rattle.semantics.specs.Trees.{Tree}
-use Rattle.semantics.specs.Events.{Span, scalar, key, tag, of_struct, of_sequence, Event, leaf, start, stop, span_of}
-use Rattle.semantics.specs.Faults.{index_step, Fault, Ending}
+use Rattle.semantics_lines.specs.Trees.{Tree}
+use Rattle.semantics_lines.specs.Events.{Span, scalar, key, tag, of_struct, of_sequence, Event, leaf, start, stop, span_of}
+use Rattle.semantics_lines.specs.Faults.{index_step, Fault, Ending}
 use Rattle.semantics.specs.Reading.{from_events}
 use Rattle.semantics.specs.Causes.{ends_sequence, has_room}
 use Rattle.semantics.specs.Typed.{has_length}

@@ -1,8 +1,8 @@
 -- Steps in turn.
 use Rattle.std.proofs.Common.{Result, sym, ◌∙◌, ap}
-use Rattle.semantics.specs.Trees.{Tree}
-use Rattle.semantics.specs.Events.{Span, span_of}
-use Rattle.semantics.specs.Faults.{Fault, Ending}
+use Rattle.semantics_lines.specs.Trees.{Tree}
+use Rattle.semantics_lines.specs.Events.{Span, span_of}
+use Rattle.semantics_lines.specs.Faults.{Fault, Ending}
 use Rattle.laws_reading.specs.Input.{Input, feed, ◌>>=◌}
 use Rattle.laws_reading.specs.Values.{Terms}
 use Rattle.laws_machine.specs.Frames.{Frames}

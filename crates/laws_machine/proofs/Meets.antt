@@ -1,10 +1,10 @@
 -- What the machine does with a value is what the recursion reads, and then it goes on with what is open.
 use Rattle.std.proofs.Common.{◌≡◌, ℕ, zero, suc, List, [], ◌∷◌, Option, Some, None, Result, Ok, Err, Bool, true, false, refl, ◌∙◌, ap}
-use Rattle.semantics.specs.Trees.{Tree}
-use Rattle.semantics.specs.Shapes.{is_tuple, StructShape, Definition, scalar_shape, option_shape, result_shape, list_shape, array_shape, set_shape, map_shape, struct_shape, enum_shape, transparent_shape, definition_at}
-use Rattle.semantics.specs.Events.{Span, Event, span_of}
-use Rattle.semantics.specs.Faults.{Fault, Ending}
-use Rattle.semantics.specs.Recoding.{ended_at}
+use Rattle.semantics_lines.specs.Trees.{Tree}
+use Rattle.semantics_lines.specs.Shapes.{is_tuple, StructShape, Definition, scalar_shape, option_shape, result_shape, list_shape, array_shape, set_shape, map_shape, struct_shape, enum_shape, transparent_shape, definition_at}
+use Rattle.semantics_lines.specs.Events.{Span, Event, span_of}
+use Rattle.semantics_lines.specs.Faults.{Fault, Ending}
+use Rattle.semantics_lines.specs.Faults.{ended_at}
 use Rattle.semantics.specs.Reading.{Source, from_events}
 use Rattle.laws_reading.specs.Input.{Input, feed, ◌>>=◌}
 use Rattle.laws_reading.specs.Values.{Terms, target_of, struct_as, value_at, reading}

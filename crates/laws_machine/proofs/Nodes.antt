@@ -1,8 +1,8 @@
 -- Scalars, and nodes.
 use Rattle.std.proofs.Common.{◌≡◌, ◌+◌, ◌≤◌, List, [], ◌∷◌, length, Option, Some, None, Result, Ok, Err, Bool, true, false, cond, refl, ◌∙◌, arith}
-use Rattle.semantics.specs.Trees.{Tree}
-use Rattle.semantics.specs.Events.{Span, Key, key_note, scalar, key, tag, of_struct, of_sequence, Event, leaf, start, stop, span_of}
-use Rattle.semantics.specs.Faults.{Fault, Ending}
+use Rattle.semantics_lines.specs.Trees.{Tree}
+use Rattle.semantics_lines.specs.Events.{Span, Key, key_note, scalar, key, tag, of_struct, of_sequence, Event, leaf, start, stop, span_of}
+use Rattle.semantics_lines.specs.Faults.{Fault, Ending}
 use Rattle.semantics.specs.Setters.{Outcome, set_scalar}
 use Rattle.semantics.specs.Reading.{is_argument, is_key}
 use Rattle.laws_reading.specs.Input.{Input, feed, ◌>>=◌, unexpected}

@@ -1,8 +1,8 @@
 -- Options and results.
 use Rattle.std.proofs.Common.{◌≡◌, ℕ, List, [], ◌∷◌, ◌++◌, Option, Some, None, Result, Ok, Err, Bool, true, false, refl, sym, ◌∙◌}
-use Rattle.semantics.specs.Trees.{Tree}
-use Rattle.semantics.specs.Events.{Span, of_struct, of_sequence, Event, leaf, start, stop, span_of}
-use Rattle.semantics.specs.Faults.{variant_step, Fault, Ending}
+use Rattle.semantics_lines.specs.Trees.{Tree}
+use Rattle.semantics_lines.specs.Events.{Span, of_struct, of_sequence, Event, leaf, start, stop, span_of}
+use Rattle.semantics_lines.specs.Faults.{variant_step, Fault, Ending}
 use Rattle.semantics.specs.Reading.{from_events}
 use Rattle.semantics.specs.Causes.{is_nothing_event}
 use Rattle.laws_reading.specs.Input.{Input, feed, ◌>>=◌}

@@ -1,9 +1,9 @@
 -- Of the input at the end of a value, only the span counts that was taken last.
 use Rattle.std.proofs.Common.{◌≡◌, ℕ, zero, suc, List, [], ◌∷◌, ◌++◌, length, Option, Some, None, Result, Ok, Err, Bool, true, false, cond, refl, ◌∙◌, ap}
-use Rattle.semantics.specs.Trees.{Tree, Trees}
-use Rattle.semantics.specs.Shapes.{Field, Definition, Registry, definition_at}
-use Rattle.semantics.specs.Events.{scalar, key, tag, Event, leaf, start, stop}
-use Rattle.semantics.specs.Faults.{Step, Fault}
+use Rattle.semantics_lines.specs.Trees.{Tree, Trees}
+use Rattle.semantics_lines.specs.Shapes.{Field, Definition, Registry, definition_at}
+use Rattle.semantics_lines.specs.Events.{scalar, key, tag, Event, leaf, start, stop}
+use Rattle.semantics_lines.specs.Faults.{Step, Fault}
 use Rattle.semantics.specs.Places.{At, below, has_whole, Choice}
 use Rattle.semantics.specs.Keys.{Layout}
 use Rattle.semantics.specs.Reading.{fill, in_parts}

@@ -1,9 +1,9 @@
 -- Structs with named fields.
 use Rattle.std.proofs.Common.{◌≡◌, ℕ, ◌+◌, ◌≤◌, List, [], ◌∷◌, ◌++◌, length, Option, Some, None, Result, Ok, Err, Bool, true, false, cond, not, ◌&&◌, refl, ◌∙◌, arith}
-use Rattle.semantics.specs.Trees.{Tree}
-use Rattle.semantics.specs.Shapes.{StructShape, Registry}
-use Rattle.semantics.specs.Events.{Span, Key, key_note, scalar, key, tag, of_struct, of_sequence, Event, leaf, start, stop, span_of}
-use Rattle.semantics.specs.Faults.{Step, duplicate_field, Fault, Ending}
+use Rattle.semantics_lines.specs.Trees.{Tree}
+use Rattle.semantics_lines.specs.Shapes.{StructShape, Registry}
+use Rattle.semantics_lines.specs.Events.{Span, Key, key_note, scalar, key, tag, of_struct, of_sequence, Event, leaf, start, stop, span_of}
+use Rattle.semantics_lines.specs.Faults.{Step, duplicate_field, Fault, Ending}
 use Rattle.semantics.specs.Places.{Path}
 use Rattle.semantics.specs.Keys.{Plan, plan_of, leads, after_key, is_allowed}
 use Rattle.semantics.specs.Reading.{Part, of_shape, of_variant, of_tag, of_entry, source_of, key_text, plain_layout}

@@ -1,9 +1,9 @@
 -- Tuples, as sequences and as objects.
 use Rattle.std.proofs.Common.{◌≡◌, ℕ, zero, suc, ◌+◌, ◌<◌, List, [], ◌∷◌, ◌++◌, length, drop, slice_get, Option, Some, None, Result, Ok, Err, Bool, true, false, not, ◌&&◌, refl, sym, ◌∙◌, ap, arith}
-use Rattle.semantics.specs.Trees.{Tree}
-use Rattle.semantics.specs.Shapes.{Field, StructShape, Registry}
-use Rattle.semantics.specs.Events.{Span, key_note, scalar, key, tag, of_struct, of_sequence, object_kind, array_kind, Event, leaf, start, stop, span_of}
-use Rattle.semantics.specs.Faults.{index_step, Fault, Ending}
+use Rattle.semantics_lines.specs.Trees.{Tree}
+use Rattle.semantics_lines.specs.Shapes.{Field, StructShape, Registry}
+use Rattle.semantics_lines.specs.Events.{Span, key_note, scalar, key, tag, of_struct, of_sequence, object_kind, array_kind, Event, leaf, start, stop, span_of}
+use Rattle.semantics_lines.specs.Faults.{index_step, Fault, Ending}
 use Rattle.semantics.specs.Registry.{has_some}
 use Rattle.semantics.specs.Reading.{from_events, is_nothing}
 use Rattle.semantics.specs.Causes.{ends_sequence}

@@ -1,9 +1,9 @@
 -- Values whose first event is at hand, and values that have to come.
 use Rattle.std.specs.Prelude.{ℕ, zero, suc, [], ◌∷◌, Option, Some, None, Ok, Bool, true, false, not, ◌&&◌}
-use Rattle.semantics.specs.Trees.{none}
-use Rattle.semantics.specs.Shapes.{StructShape, is_tuple, Definition, scalar_shape, option_shape, result_shape, list_shape, array_shape, struct_shape, transparent_shape, definition_at}
-use Rattle.semantics.specs.Events.{Span, Key, scalar, of_struct, of_sequence, object_kind, Event, leaf, start, span_of}
-use Rattle.semantics.specs.Faults.{too_deep}
+use Rattle.semantics_lines.specs.Trees.{none}
+use Rattle.semantics_lines.specs.Shapes.{StructShape, is_tuple, Definition, scalar_shape, option_shape, result_shape, list_shape, array_shape, struct_shape, transparent_shape, definition_at}
+use Rattle.semantics_lines.specs.Events.{Span, Key, scalar, of_struct, of_sequence, object_kind, Event, leaf, start, span_of}
+use Rattle.semantics_lines.specs.Faults.{too_deep}
 use Rattle.semantics.specs.Registry.{has_some}
 use Rattle.semantics.specs.Reading.{Source, from_events, Part, of_shape, of_variant, of_tag, of_entry, source_of, is_nothing, plain_layout}
 use Rattle.semantics.specs.Causes.{is_nothing_event}

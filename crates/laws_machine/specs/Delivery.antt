@@ -1,8 +1,8 @@
 -- What stands behind an event: what is open, or the whole value.
 use Rattle.std.specs.Prelude.{[], ◌∷◌, ◌++◌, Option, Some, Result, Ok}
-use Rattle.semantics.specs.Trees.{Tree, some}
-use Rattle.semantics.specs.Events.{Span, no_span, Key}
-use Rattle.semantics.specs.Faults.{Fault, ends}
+use Rattle.semantics_lines.specs.Trees.{Tree, some}
+use Rattle.semantics_lines.specs.Events.{Span, no_span, Key}
+use Rattle.semantics_lines.specs.Faults.{Fault, ends}
 use Rattle.semantics.specs.Places.{At}
 use Rattle.semantics.specs.Keys.{after_key}
 use Rattle.laws_reading.specs.Input.{Input, feed, never}

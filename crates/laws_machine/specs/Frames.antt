@@ -1,9 +1,9 @@
 -- What is open while a value is read, one frame in another.
 use Rattle.std.specs.Prelude.{ℕ, List, [], ◌∷◌, ◌++◌, length, Bool}
-use Rattle.semantics.specs.Texts.{Phrase}
-use Rattle.semantics.specs.Trees.{Tree}
-use Rattle.semantics.specs.Events.{Span}
-use Rattle.semantics.specs.Faults.{Step, index_step, variant_step}
+use Rattle.semantics_lines.specs.Texts.{Phrase}
+use Rattle.semantics_lines.specs.Trees.{Tree}
+use Rattle.semantics_lines.specs.Events.{Span}
+use Rattle.semantics_lines.specs.Faults.{Step, index_step, variant_step}
 use Rattle.semantics.specs.Places.{Path, Choice}
 use Rattle.semantics.specs.Keys.{Layout}
 use Rattle.laws_reading.specs.Skips.{Opened}

@@ -1,9 +1,9 @@
 -- What holds of the machine.
 use Rattle.std.specs.Prelude.{◌≡◌, ℕ, List, [], ◌∷◌, Result, Ok, Err}
-use Rattle.semantics.specs.Trees.{Tree}
-use Rattle.semantics.specs.Events.{Span, Event, span_of}
-use Rattle.semantics.specs.Faults.{Fault, Ending}
-use Rattle.semantics.specs.Recoding.{ended_at}
+use Rattle.semantics_lines.specs.Trees.{Tree}
+use Rattle.semantics_lines.specs.Events.{Span, Event, span_of}
+use Rattle.semantics_lines.specs.Faults.{Fault, Ending}
+use Rattle.semantics_lines.specs.Faults.{ended_at}
 use Rattle.semantics.specs.Reading.{Source}
 use Rattle.laws_reading.specs.Input.{Input, feed}
 use Rattle.laws_reading.specs.Values.{Terms, reading}

@@ -1,8 +1,8 @@
 -- Which events a step only looks at, where it stops at a fault.
 use Rattle.std.specs.Prelude.{◌≡◌, ◌⊎◌, ℕ, zero, suc, ◌∷◌, length, slice_get, Option, Some, None, Result, Err, Bool, true, false, cond}
-use Rattle.semantics.specs.Shapes.{Field, Definition, option_shape, transparent_shape, definition_at}
-use Rattle.semantics.specs.Events.{Span, Event, span_of}
-use Rattle.semantics.specs.Faults.{bug, Fault}
+use Rattle.semantics_lines.specs.Shapes.{Field, Definition, option_shape, transparent_shape, definition_at}
+use Rattle.semantics_lines.specs.Events.{Span, Event, span_of}
+use Rattle.semantics_lines.specs.Faults.{bug, Fault}
 use Rattle.semantics.specs.Causes.{is_nothing_event, ends_sequence, has_room}
 use Rattle.laws_reading.specs.Values.{Terms}
 use Rattle.laws_machine.specs.Frames.{awaits, items, elements, Frames}

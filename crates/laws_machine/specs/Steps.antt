@@ -1,9 +1,9 @@
 -- What one event does to what is open.
 use Rattle.std.specs.Prelude.{suc, ◌+◌, List, [], ◌∷◌, length, drop, slice_get, Option, Some, None, Result, Ok, Bool, true, false, cond, not, ◌&&◌}
-use Rattle.semantics.specs.Trees.{Tree, structure, trees_of}
-use Rattle.semantics.specs.Shapes.{Field}
-use Rattle.semantics.specs.Events.{Span, Key, key_note, scalar, key, of_struct, Event, leaf, stop, span_of}
-use Rattle.semantics.specs.Faults.{too_many_elements, duplicate_field, reflect, Fault}
+use Rattle.semantics_lines.specs.Trees.{Tree, structure, trees_of}
+use Rattle.semantics_lines.specs.Shapes.{Field}
+use Rattle.semantics_lines.specs.Events.{Span, Key, key_note, scalar, key, of_struct, Event, leaf, stop, span_of}
+use Rattle.semantics_lines.specs.Faults.{too_many_elements, duplicate_field, reflect, Fault}
 use Rattle.semantics.specs.Places.{Path}
 use Rattle.semantics.specs.Keys.{Plan, plan_of, leads, is_allowed}
 use Rattle.semantics.specs.Reading.{from_events, key_phrase, key_text, is_argument, is_key}

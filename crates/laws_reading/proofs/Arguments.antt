@@ -3,8 +3,8 @@ use Rattle.std.proofs.Common.{◌≡◌, List, [], ◌∷◌, ◌++◌, Option, 
 use Rattle.std.specs.List.{list_all}
 use Rattle.std.proofs.lemmas.List.{append-nil}
 use Rattle.std.proofs.lemmas.List.Folds.{list_all-append}
-use Rattle.semantics.specs.Trees.{Tree}
-use Rattle.semantics.specs.Events.{Span, Key, key_note, named, nameless, ordered}
+use Rattle.semantics_lines.specs.Trees.{Tree}
+use Rattle.semantics_lines.specs.Events.{Span, Key, key_note, named, nameless, ordered}
 use Rattle.semantics.specs.Runs.{Run, Entry}
 use Rattle.semantics.specs.Numerals.{only}
 use Rattle.semantics.specs.Reading.{set_by, is_argument, is_key, arguments, read_node}

@@ -1,7 +1,7 @@
 -- The cause of a fault at the root is the one that its kind asks for.
 use Rattle.std.proofs.Common.{inl, inr, ℕ, List, [], refl, sym, subst}
-use Rattle.semantics.specs.Events.{Span, Event}
-use Rattle.semantics.specs.Faults.{Step, FaultKind, Fault, Ending}
+use Rattle.semantics_lines.specs.Events.{Span, Event}
+use Rattle.semantics_lines.specs.Faults.{Step, FaultKind, Fault, Ending}
 use Rattle.semantics.specs.Reading.{from_events}
 use Rattle.semantics.specs.Causes.{NoRun, root_part, IsUnset}
 use Rattle.semantics.specs.Recoding.{HasOwnCause, HasCauseFrom}

@@ -1,7 +1,7 @@
 -- Cutting the inside of an object along the entries that came.
 use Rattle.std.proofs.Common.{◌≡◌, List, [], ◌∷◌, ◌++◌, Option, Some, None, true, option_map, refl, sym, ap, ◌∙◌, subst, append_assoc}
 use Rattle.std.proofs.lemmas.List.{append-nil}
-use Rattle.semantics.specs.Events.{Note, scalar, key, tag, Bracket, of_struct, Key, Leaf, Event, leaf, stop}
+use Rattle.semantics_lines.specs.Events.{Note, scalar, key, tag, Bracket, of_struct, Key, Leaf, Event, leaf, stop}
 use Rattle.semantics.specs.Runs.{Inside, close, loose, nest, Run, one, group, tagged, inside_events, run_events, Entry, RunAndEntries, under_key, entries, run_and_entries, entries_events}
 use Rattle.laws.proofs.Whole.{unique_inside}
 use Rattle.laws_reading.proofs.Streams.{put_run, put_run_events, entry_first, inside_of, runs_are}

@@ -2,10 +2,10 @@
 use Rattle.std.proofs.Common.{◌≡◌, ℕ, zero, suc, List, [], ◌∷◌, ◌++◌, length, drop, Option, Some, None, Ok, Bool, true, option_map, refl, sym, ap, ap₂, ◌∙◌, append_assoc, length-append, arith}
 use Rattle.std.proofs.lemmas.List.{append-nil}
 use Rattle.std.specs.Prelude.{slice_get}
-use Rattle.semantics.specs.Trees.{Tree, structure, Trees, tree, trees_of}
-use Rattle.semantics.specs.Shapes.{Field, Registry}
-use Rattle.semantics.specs.Events.{Span, Event}
-use Rattle.semantics.specs.Faults.{Step, index_step, Ending}
+use Rattle.semantics_lines.specs.Trees.{Tree, structure, Trees, tree, trees_of}
+use Rattle.semantics_lines.specs.Shapes.{Field, Registry}
+use Rattle.semantics_lines.specs.Events.{Span, Event}
+use Rattle.semantics_lines.specs.Faults.{Step, index_step, Ending}
 use Rattle.semantics.specs.Runs.{Run, run_events}
 use Rattle.semantics.specs.Reading.{Source, from_events, Reader, fill, and_trees, read_elements}
 use Rattle.semantics.specs.Causes.{last_span}

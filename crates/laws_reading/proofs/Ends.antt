@@ -3,7 +3,7 @@ use Rattle.std.proofs.Common.{◌≡◌, ◌⊎◌, ℕ, suc, ◌+◌, List, [],
 use Rattle.std.proofs.lemmas.List.Elements.{filter_map-append}
 use Rattle.std.specs.List.{cons_option}
 use Rattle.std.specs.Prelude.{⊤}
-use Rattle.semantics.specs.Shapes.{Field, Registry}
+use Rattle.semantics_lines.specs.Shapes.{Field, Registry}
 use Rattle.semantics.specs.Places.{Path, At, rest_of, rest_at, below, is_end, has_whole, Choice}
 use Rattle.semantics.specs.Reading.{Parts}
 use Rattle.semantics.specs.Ends.{End, leaf_end, FlatLeaf, leaf_field, leaf_found, leaf_in}

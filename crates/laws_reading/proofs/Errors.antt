@@ -1,6 +1,6 @@
 -- Results in turn that end in a fault.
 use Rattle.std.proofs.Common.{◌≡◌, ◌⊎◌, inl, inr, Result, Ok, Err, refl, ap}
-use Rattle.semantics.specs.Faults.{Fault}
+use Rattle.semantics_lines.specs.Faults.{Fault}
 use Rattle.laws_reading.specs.Input.{◌>>=◌}
 
 -- of two in turn, one tells the fault

@@ -1,8 +1,8 @@
 -- Each fault of reading has its cause in the events.
 use Rattle.std.proofs.Common.{◌≡◌, ℕ, zero, suc, [], Option, Some, None, Bool, true, false, refl, sym, ap, ◌∙◌}
-use Rattle.semantics.specs.Shapes.{is_tuple, Definition, scalar_shape, option_shape, result_shape, list_shape, array_shape, set_shape, map_shape, struct_shape, enum_shape, transparent_shape, definition_at}
+use Rattle.semantics_lines.specs.Shapes.{is_tuple, Definition, scalar_shape, option_shape, result_shape, list_shape, array_shape, set_shape, map_shape, struct_shape, enum_shape, transparent_shape, definition_at}
 use Rattle.semantics.specs.Registry.{IsRegistry}
-use Rattle.semantics.specs.Faults.{too_deep}
+use Rattle.semantics_lines.specs.Faults.{too_deep}
 use Rattle.semantics.specs.Runs.{Run}
 use Rattle.semantics.specs.Reading.{Source, read_shape, read}
 use Rattle.semantics.specs.Causes.{stands_for_part}

@@ -1,14 +1,14 @@
 -- Each fault among the items of a tuple, in a sequence, has its cause.
 use Rattle.std.proofs.Common.{◌≡◌, ℕ, zero, suc, ◌<◌, ◌≤◌, List, [], ◌∷◌, ◌++◌, length, slice_get, Option, Some, None, Result, Ok, Err, Bool, true, false, refl, sym, ap, ◌∙◌, subst, length-append, arith}
 use Rattle.std.proofs.lemmas.List.{append-nil}
-use Rattle.semantics.specs.Trees.{Tree}
-use Rattle.semantics.specs.Shapes.{is_tuple, Field, StructShape, struct_shape, definition_at}
-use Rattle.semantics.specs.Events.{Span, Note, of_sequence, ContainerKind, Event, stop}
-use Rattle.semantics.specs.Faults.{Step, index_step, too_many_elements, reflect, Fault, Ending}
+use Rattle.semantics_lines.specs.Trees.{Tree}
+use Rattle.semantics_lines.specs.Shapes.{is_tuple, Field, StructShape, struct_shape, definition_at}
+use Rattle.semantics_lines.specs.Events.{Span, Note, of_sequence, ContainerKind, Event, stop}
+use Rattle.semantics_lines.specs.Faults.{Step, index_step, too_many_elements, reflect, Fault, Ending}
 use Rattle.semantics.specs.Runs.{Run}
 use Rattle.semantics.specs.Reading.{of_shape, Source, from_events, read}
 use Rattle.semantics.specs.Causes.{last_span, OnFirst, ends_sequence, item_part, enters_element, Stands, in_sequence, of_items, another_item}
-use Rattle.semantics.specs.Recoding.{ended_at}
+use Rattle.semantics_lines.specs.Faults.{ended_at}
 use Rattle.laws_reading.specs.Input.{Input, feed, ◌>>=◌, turned, turning}
 use Rattle.laws_reading.specs.Sequences.{with_item}
 use Rattle.laws_reading.specs.Tuples.{element_at, element_of, element_turn, tuple_end}

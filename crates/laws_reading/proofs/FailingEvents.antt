@@ -1,12 +1,12 @@
 -- Events that are refused in a part that is due, and events that end before it does.
 use Rattle.std.proofs.Common.{◌≡◌, inl, ℕ, suc, List, [], ◌∷◌, ◌++◌, None, false, refl, sym}
-use Rattle.semantics.specs.Shapes.{Registry, definition_at}
-use Rattle.semantics.specs.Events.{Span, Event, span_of}
-use Rattle.semantics.specs.Faults.{Step, unexpected_token, Fault, Ending}
+use Rattle.semantics_lines.specs.Shapes.{Registry, definition_at}
+use Rattle.semantics_lines.specs.Events.{Span, Event, span_of}
+use Rattle.semantics_lines.specs.Faults.{Step, unexpected_token, Fault, Ending}
 use Rattle.semantics.specs.Runs.{Run}
 use Rattle.semantics.specs.Reading.{of_shape, Source, read}
 use Rattle.semantics.specs.Causes.{IsOpen, last_span, Stands, before_all, stands_for_part, Cut, TakesNo}
-use Rattle.semantics.specs.Recoding.{ended_at}
+use Rattle.semantics_lines.specs.Faults.{ended_at}
 use Rattle.laws_reading.specs.Input.{refused_at}
 use Rattle.laws_reading.specs.Values.{Terms}
 use Rattle.laws_reading.specs.Causes.{fault, Cause, ran_out, unexpected_at, part_of, Fails}

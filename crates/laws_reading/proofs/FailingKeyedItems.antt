@@ -1,14 +1,14 @@
 -- Each fault among the items of a tuple, behind the keys of an object, has its cause.
 use Rattle.std.proofs.Common.{◌≡◌, ℕ, zero, suc, ◌<◌, ◌≤◌, List, [], ◌∷◌, ◌++◌, length, slice_get, Option, Some, None, option_map, option_and_then, Result, Ok, Err, Bool, true, refl, sym, ap, ◌∙◌, subst, append_assoc, length-append, arith}
 use Rattle.std.proofs.lemmas.List.{append-nil}
-use Rattle.semantics.specs.Trees.{Tree, structure}
-use Rattle.semantics.specs.Shapes.{is_tuple, Field, StructShape, struct_shape, definition_at}
-use Rattle.semantics.specs.Events.{Span, Note, Key, key_note, scalar, key, tag, of_struct, of_sequence, object_kind, array_kind, Event, leaf, start, stop, span_of}
-use Rattle.semantics.specs.Faults.{Step, index_step, unexpected_token, too_many_elements, reflect, Fault, Ending}
+use Rattle.semantics_lines.specs.Trees.{Tree, structure}
+use Rattle.semantics_lines.specs.Shapes.{is_tuple, Field, StructShape, struct_shape, definition_at}
+use Rattle.semantics_lines.specs.Events.{Span, Note, Key, key_note, scalar, key, tag, of_struct, of_sequence, object_kind, array_kind, Event, leaf, start, stop, span_of}
+use Rattle.semantics_lines.specs.Faults.{Step, index_step, unexpected_token, too_many_elements, reflect, Fault, Ending}
 use Rattle.semantics.specs.Runs.{one, group, tagged, inside_events, Entry, entries_events}
 use Rattle.semantics.specs.Reading.{of_shape, Source, from_events, read_elements, entry_runs, read}
 use Rattle.semantics.specs.Causes.{IsOpen, last_span, item_part, enters_entry, Stands, in_object, TakesNo, of_entries, another_entry}
-use Rattle.semantics.specs.Recoding.{ended_at}
+use Rattle.semantics_lines.specs.Faults.{ended_at}
 use Rattle.laws_reading.specs.Input.{Input, feed, ◌>>=◌, turned, turning}
 use Rattle.laws_reading.specs.Sequences.{with_item}
 use Rattle.laws_reading.specs.Tuples.{element_at, keyed_turn, tuple_end}

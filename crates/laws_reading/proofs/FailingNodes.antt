@@ -1,15 +1,15 @@
 -- Each fault of reading a scalar, or a node, has its cause.
 use Rattle.std.proofs.Common.{◌≡◌, inl, inr, ℕ, suc, List, [], ◌∷◌, ◌++◌, Option, Some, None, Result, Ok, Err, Bool, true, false, cond, option_and_then, refl, sym, ap, ◌∙◌, subst, append_assoc}
 use Rattle.std.proofs.lemmas.List.{append-nil}
-use Rattle.semantics.specs.Trees.{Tree}
-use Rattle.semantics.specs.Shapes.{ScalarType, scalar_shape, Registry, definition_at}
-use Rattle.semantics.specs.Events.{Span, Note, Scalar, Key, key_note, scalar, key, tag, of_struct, of_sequence, ContainerKind, Event, leaf, start, stop, span_of}
-use Rattle.semantics.specs.Faults.{Step, unexpected_token, duplicate_field, Fault, Ending}
+use Rattle.semantics_lines.specs.Trees.{Tree}
+use Rattle.semantics_lines.specs.Shapes.{ScalarType, scalar_shape, Registry, definition_at}
+use Rattle.semantics_lines.specs.Events.{Span, Note, Scalar, Key, key_note, scalar, key, tag, of_struct, of_sequence, ContainerKind, Event, leaf, start, stop, span_of}
+use Rattle.semantics_lines.specs.Faults.{Step, unexpected_token, duplicate_field, Fault, Ending}
 use Rattle.semantics.specs.Runs.{Inside, Run, one, group, tagged, run_events, Entry, entries, entries_events}
 use Rattle.semantics.specs.Setters.{Outcome, set_scalar}
 use Rattle.semantics.specs.Reading.{of_shape, Source, key_text, is_argument, is_key, arguments, read_node, read_scalar, read_shape, read}
 use Rattle.semantics.specs.Causes.{last_span, Begun, stands_for_part, takes_object, passes, Stands, before_all, in_object, in_passed, SetsHere, at_once, as_argument, same_argument}
-use Rattle.semantics.specs.Recoding.{ended_at}
+use Rattle.semantics_lines.specs.Faults.{ended_at}
 use Rattle.laws_reading.specs.Input.{Input, feed, ◌>>=◌, unexpected}
 use Rattle.laws_reading.specs.Skips.{skip_at}
 use Rattle.laws_reading.specs.Nodes.{Target, or_refused, set_at, Node, bare_node, with_argument, without_argument, argument_at, unchanged, node_entry, or_unexpected, node_value, scalar_at}

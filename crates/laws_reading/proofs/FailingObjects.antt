@@ -1,14 +1,14 @@
 -- What is refused in an object behind whole entries: an event that is no entry, a key, the end, and where no event comes.
 use Rattle.std.proofs.Common.{◌≡◌, ℕ, suc, List, [], ◌∷◌, ◌++◌, Option, None, true, option_and_then, refl, ap, ◌∙◌}
 use Rattle.std.proofs.lemmas.List.{append-nil}
-use Rattle.semantics.specs.Trees.{Tree}
-use Rattle.semantics.specs.Shapes.{definition_at}
-use Rattle.semantics.specs.Events.{Span, Note, Key, key_note, key, of_struct, of_sequence, ContainerKind, Event, leaf, start, stop, span_of}
-use Rattle.semantics.specs.Faults.{Step, unexpected_token, Fault, Ending}
+use Rattle.semantics_lines.specs.Trees.{Tree}
+use Rattle.semantics_lines.specs.Shapes.{definition_at}
+use Rattle.semantics_lines.specs.Events.{Span, Note, Key, key_note, key, of_struct, of_sequence, ContainerKind, Event, leaf, start, stop, span_of}
+use Rattle.semantics_lines.specs.Faults.{Step, unexpected_token, Fault, Ending}
 use Rattle.semantics.specs.Runs.{Inside, Run, one, group, tagged, inside_events, Entry, entries, entries_events}
 use Rattle.semantics.specs.Reading.{Source, read}
 use Rattle.semantics.specs.Causes.{last_span, Begun, takes_object, in_object, TakesNo}
-use Rattle.semantics.specs.Recoding.{ended_at}
+use Rattle.semantics_lines.specs.Faults.{ended_at}
 use Rattle.laws_reading.specs.Values.{Terms}
 use Rattle.laws_reading.specs.Causes.{fault, Cause, part_of}
 use Rattle.laws_reading.proofs.Objects.{entry}

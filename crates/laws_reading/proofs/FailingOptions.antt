@@ -1,11 +1,11 @@
 -- Each fault in an option, and in a transparent shape, has its cause: that in what they hold.
 use Rattle.std.proofs.Common.{◌≡◌, inl, inr, ℕ, suc, List, [], ◌∷◌, Some, Err, Bool, true, false, refl, sym, subst}
-use Rattle.semantics.specs.Shapes.{option_shape, transparent_shape, definition_at}
-use Rattle.semantics.specs.Events.{Span, Event}
-use Rattle.semantics.specs.Faults.{Step, Fault, Ending}
+use Rattle.semantics_lines.specs.Shapes.{option_shape, transparent_shape, definition_at}
+use Rattle.semantics_lines.specs.Events.{Span, Event}
+use Rattle.semantics_lines.specs.Faults.{Step, Fault, Ending}
 use Rattle.semantics.specs.Reading.{Source, from_events}
 use Rattle.semantics.specs.Causes.{OnFirst, is_nothing_event, enters_transparent, enters_some}
-use Rattle.semantics.specs.Recoding.{ended_at}
+use Rattle.semantics_lines.specs.Faults.{ended_at}
 use Rattle.laws_reading.specs.Input.{feed}
 use Rattle.laws_reading.specs.Options.{with_some, option_of, option_at}
 use Rattle.laws_reading.specs.Values.{Terms, reading}

@@ -1,14 +1,14 @@
 -- Each fault in a result has its cause.
 use Rattle.std.proofs.Common.{◌≡◌, inl, inr, ℕ, suc, List, [], ◌∷◌, ◌++◌, Option, Some, None, Err, Bool, true, false, cond, option_map, option_and_then, refl, sym, ap, ◌∙◌, subst}
 use Rattle.std.proofs.lemmas.List.{append-nil}
-use Rattle.semantics.specs.Trees.{Tree, ok, err}
-use Rattle.semantics.specs.Shapes.{result_shape, definition_at}
-use Rattle.semantics.specs.Events.{Span, Note, Key, key_note, scalar, key, tag, of_struct, of_sequence, ContainerKind, Event, leaf, start, stop, span_of}
-use Rattle.semantics.specs.Faults.{Step, variant_step, unexpected_token, Fault, Ending}
+use Rattle.semantics_lines.specs.Trees.{Tree, ok, err}
+use Rattle.semantics_lines.specs.Shapes.{result_shape, definition_at}
+use Rattle.semantics_lines.specs.Events.{Span, Note, Key, key_note, scalar, key, tag, of_struct, of_sequence, ContainerKind, Event, leaf, start, stop, span_of}
+use Rattle.semantics_lines.specs.Faults.{Step, variant_step, unexpected_token, Fault, Ending}
 use Rattle.semantics.specs.Runs.{Inside, Run, one, group, tagged, inside_events, run_events, Entry, entries, entries_events}
 use Rattle.semantics.specs.Reading.{of_shape, Source, from_events, by_outcome, read_object, read_result, read_shape, read}
 use Rattle.semantics.specs.Causes.{last_span, Part, ok_side, err_side, outcome_part, enters_outcome, takes_object, stands_for_part, Stands, in_object, TakesNo}
-use Rattle.semantics.specs.Recoding.{ended_at}
+use Rattle.semantics_lines.specs.Faults.{ended_at}
 use Rattle.laws_reading.specs.Input.{feed}
 use Rattle.laws_reading.specs.Options.{Sides, side_of, side_in, result_closed, result_side, result_at}
 use Rattle.laws_reading.specs.Laws.{Sound}

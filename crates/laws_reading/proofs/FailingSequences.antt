@@ -3,15 +3,15 @@ use Rattle.std.proofs.Common.{◌≡◌, ℕ, zero, suc, ◌+◌, ◌<◌, ◌�
 use Rattle.std.specs.Prelude.{⊤}
 use Rattle.std.proofs.lemmas.List.{append-nil}
 use Rattle.std.proofs.lemmas.Bool.Decides.{nat_tests}
-use Rattle.semantics.specs.Trees.{Tree}
-use Rattle.semantics.specs.Shapes.{Definition, list_shape, array_shape, definition_at}
+use Rattle.semantics_lines.specs.Trees.{Tree}
+use Rattle.semantics_lines.specs.Shapes.{Definition, list_shape, array_shape, definition_at}
 use Rattle.semantics.specs.Typed.{item_of as item_shape, length_of, has_length}
-use Rattle.semantics.specs.Events.{Span, Note, of_struct, of_sequence, ContainerKind, Event, leaf, start, stop, span_of}
-use Rattle.semantics.specs.Faults.{Step, index_step, unexpected_token, array_length, reflect, Fault, Ending}
+use Rattle.semantics_lines.specs.Events.{Span, Note, of_struct, of_sequence, ContainerKind, Event, leaf, start, stop, span_of}
+use Rattle.semantics_lines.specs.Faults.{Step, index_step, unexpected_token, array_length, reflect, Fault, Ending}
 use Rattle.semantics.specs.Runs.{Run, one, group, tagged}
 use Rattle.semantics.specs.Reading.{of_shape, Source, from_events, read_sequence, read_items, read_as, read_shape, read}
 use Rattle.semantics.specs.Causes.{last_span, Part, OnFirst, ends_sequence, IsListOf, length_in, has_room, item_part, enters_item, takes_sequence, stands_for_part, Stands, in_sequence, TakesNo, too_short, too_long}
-use Rattle.semantics.specs.Recoding.{ended_at}
+use Rattle.semantics_lines.specs.Faults.{ended_at}
 use Rattle.laws_reading.specs.Input.{Input, feed, ◌>>=◌, Reads, turned, turning}
 use Rattle.laws_reading.specs.Sequences.{Items, with_item, length_fault, more_items, item_of, item_turn, items_end, items_whole, sequence_at}
 use Rattle.laws_reading.specs.Laws.{Sound}

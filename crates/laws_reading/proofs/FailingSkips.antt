@@ -1,13 +1,13 @@
 -- Where a value that is passed over is refused: at an event that no run goes on with, or where the events end.
 use Rattle.std.proofs.Common.{◌≡◌, ℕ, zero, suc, ◌+◌, ◌<◌, List, [], ◌∷◌, ◌++◌, length, Option, None, Result, Err, Bool, true, false, refl, sym, ap, ◌∙◌, subst, append_assoc, arith}
 use Rattle.std.proofs.lemmas.List.{append-nil}
-use Rattle.semantics.specs.Events.{Span, Note, no_note, unit, Key, key_note, scalar, key, tag, Leaf, Bracket, of_struct, of_sequence, ContainerKind, Event, leaf, start, stop, span_of}
-use Rattle.semantics.specs.Shapes.{definition_at}
-use Rattle.semantics.specs.Faults.{Step, unexpected_token, Fault, Ending}
+use Rattle.semantics_lines.specs.Events.{Span, Note, no_note, unit, Key, key_note, scalar, key, tag, Leaf, Bracket, of_struct, of_sequence, ContainerKind, Event, leaf, start, stop, span_of}
+use Rattle.semantics_lines.specs.Shapes.{definition_at}
+use Rattle.semantics_lines.specs.Faults.{Step, unexpected_token, Fault, Ending}
 use Rattle.semantics.specs.Runs.{Inside, close, loose, nest, Run, one, group, tagged, inside_events, run_events, Entry, entries, entries_events}
 use Rattle.semantics.specs.Reading.{Source, read}
 use Rattle.semantics.specs.Causes.{IsOpen, last_span, takes_object, passes, in_passed, TakesNo}
-use Rattle.semantics.specs.Recoding.{ended_at}
+use Rattle.semantics_lines.specs.Faults.{ended_at}
 use Rattle.laws_reading.specs.Input.{Input, feed, ◌>>=◌, turned, turning}
 use Rattle.laws_reading.specs.Skips.{Opened, same_bracket, stopped, skip_turn, skip_at}
 use Rattle.laws_reading.specs.Values.{Terms}

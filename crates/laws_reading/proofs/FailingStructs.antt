@@ -2,11 +2,11 @@
 use Rattle.std.proofs.Common.{◌≡◌, inl, inr, ℕ, suc, ◌+◌, List, [], ◌∷◌, ◌++◌, length, slice_get, Option, Some, None, Err, Bool, true, false, cond, not, ◌&&◌, is_none, option_map, option_and_then, refl, sym, ap, ◌∙◌, subst, append_assoc, arith}
 use Rattle.std.specs.List.{AllByRecursion as Every}
 use Rattle.std.proofs.lemmas.List.{append-nil}
-use Rattle.semantics.specs.Trees.{Tree, structure}
-use Rattle.semantics.specs.Shapes.{is_tuple, StructShape, struct_shape, Registry, definition_at}
+use Rattle.semantics_lines.specs.Trees.{Tree, structure}
+use Rattle.semantics_lines.specs.Shapes.{is_tuple, StructShape, struct_shape, Registry, definition_at}
 use Rattle.semantics.specs.Typed.{object_of}
-use Rattle.semantics.specs.Events.{Span, Note, Key, key_note, key, of_struct, of_sequence, ContainerKind, Event, leaf, start, stop}
-use Rattle.semantics.specs.Faults.{Step, unexpected_token, duplicate_field, Fault, Ending}
+use Rattle.semantics_lines.specs.Events.{Span, Note, Key, key_note, key, of_struct, of_sequence, ContainerKind, Event, leaf, start, stop}
+use Rattle.semantics_lines.specs.Faults.{Step, unexpected_token, duplicate_field, Fault, Ending}
 use Rattle.semantics.specs.Runs.{Inside, Run, one, group, tagged, run_events, Entry, entries, entries_events}
 use Rattle.semantics.specs.Places.{Path, At, below, all_below}
 use Rattle.semantics.specs.Keys.{Layout, Plan, plan_of, leads, after_key, placed, is_allowed}

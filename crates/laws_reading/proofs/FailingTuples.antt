@@ -1,14 +1,14 @@
 -- Each fault in a tuple has its cause.
 use Rattle.std.proofs.Common.{◌≡◌, ℕ, suc, ◌+◌, List, [], ◌∷◌, length, Some, None, Err, Bool, true, false, cond, not, ◌&&◌, refl, sym, ap, ◌∙◌, arith}
-use Rattle.semantics.specs.Trees.{structure, no_trees}
-use Rattle.semantics.specs.Shapes.{is_tuple, StructShape, struct_shape, definition_at}
-use Rattle.semantics.specs.Events.{Span, Note, Scalar, scalar, key, tag, of_struct, of_sequence, object_kind, array_kind, Event, leaf, start, stop, span_of}
-use Rattle.semantics.specs.Faults.{Step, unexpected_token, Fault, Ending}
+use Rattle.semantics_lines.specs.Trees.{structure, no_trees}
+use Rattle.semantics_lines.specs.Shapes.{is_tuple, StructShape, struct_shape, definition_at}
+use Rattle.semantics_lines.specs.Events.{Span, Note, Scalar, scalar, key, tag, of_struct, of_sequence, object_kind, array_kind, Event, leaf, start, stop, span_of}
+use Rattle.semantics_lines.specs.Faults.{Step, unexpected_token, Fault, Ending}
 use Rattle.semantics.specs.Runs.{one, group, tagged}
 use Rattle.semantics.specs.Registry.{has_some}
 use Rattle.semantics.specs.Reading.{Source, is_nothing, read}
 use Rattle.semantics.specs.Causes.{TakesNo}
-use Rattle.semantics.specs.Recoding.{ended_at}
+use Rattle.semantics_lines.specs.Faults.{ended_at}
 use Rattle.laws_reading.specs.Input.{feed}
 use Rattle.laws_reading.specs.Tuples.{empty_tuple, tuple_at}
 use Rattle.laws_reading.specs.Laws.{Sound}

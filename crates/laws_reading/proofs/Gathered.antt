@@ -1,8 +1,8 @@
 -- What was read is gathered as the meaning reads it.
 use Rattle.std.proofs.Common.{◌≡◌, ℕ, zero, suc, List, [], ◌∷◌, Option, Some, None, Result, Ok, Err, Bool, true, false, cond, length, refl, ap₂, ◌∙◌}
-use Rattle.semantics.specs.Trees.{Tree, Trees}
-use Rattle.semantics.specs.Shapes.{Field, Definition, Registry, definition_at}
-use Rattle.semantics.specs.Faults.{Step, Fault}
+use Rattle.semantics_lines.specs.Trees.{Tree, Trees}
+use Rattle.semantics_lines.specs.Shapes.{Field, Definition, Registry, definition_at}
+use Rattle.semantics_lines.specs.Faults.{Step, Fault}
 use Rattle.semantics.specs.Places.{At, below, has_whole, Choice}
 use Rattle.semantics.specs.Keys.{Layout}
 use Rattle.semantics.specs.Reading.{fill, FlatReader, read_own, in_parts, read_field, and_trees, read_fields, read_flat, read_layout}

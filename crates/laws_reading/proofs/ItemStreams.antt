@@ -1,6 +1,6 @@
 -- The inside of a sequence that has these items.
 use Rattle.std.proofs.Common.{◌≡◌, List, [], ◌∷◌, ◌++◌, Option, Some, None, option_map, option_and_then, refl, sym, ap, ◌∙◌, append_assoc}
-use Rattle.semantics.specs.Events.{Note, scalar, key, tag, of_sequence, stop}
+use Rattle.semantics_lines.specs.Events.{Note, scalar, key, tag, of_sequence, stop}
 use Rattle.semantics.specs.Runs.{Inside, close, loose, nest, Run, one, group, tagged, inside_events, run_events, tag_first, run_first, items, runs_events}
 use Rattle.laws_reading.proofs.Streams.{put_run, put_run_events}
 

@@ -2,10 +2,10 @@
 use Rattle.std.proofs.Common.{◌≡◌, ◌⊎◌, inl, inr, ℕ, zero, suc, ◌+◌, List, [], ◌∷◌, ◌++◌, length, slice_get, Option, Some, None, Err, Bool, true, false, cond, not, ◌&&◌, ◌||◌, refl, sym, ap, ◌∙◌, subst, arith}
 use Rattle.std.specs.Prelude.{⊤}
 use Rattle.std.specs.List.{AllByRecursion as Every}
-use Rattle.semantics.specs.Trees.{Tree}
-use Rattle.semantics.specs.Shapes.{Field, Definition, Registry, definition_at}
-use Rattle.semantics.specs.Events.{key_note}
-use Rattle.semantics.specs.Faults.{missing_field, Fault}
+use Rattle.semantics_lines.specs.Trees.{Tree}
+use Rattle.semantics_lines.specs.Shapes.{Field, Definition, Registry, definition_at}
+use Rattle.semantics_lines.specs.Events.{key_note}
+use Rattle.semantics_lines.specs.Faults.{missing_field, Fault}
 use Rattle.semantics.specs.Runs.{Entry}
 use Rattle.semantics.specs.Places.{Path, At, below, all_below, is_end, has_whole, Choice}
 use Rattle.semantics.specs.Keys.{Layout}

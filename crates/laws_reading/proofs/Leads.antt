@@ -1,8 +1,8 @@
 -- Each key leads to a part.
 use Rattle.std.proofs.Common.{◌≡◌, ℕ, zero, suc, List, [], ◌∷◌, ◌++◌, map, length, Option, Some, None, Bool, true, false, cond, not, ◌&&◌, bytes_eq, option_map, refl, sym, ap, ◌∙◌, arith}
 use Rattle.std.specs.Prelude.{⊤}
-use Rattle.semantics.specs.Shapes.{Field, Definition, Registry, definition_at}
-use Rattle.semantics.specs.Events.{Key, named, nameless, ordered}
+use Rattle.semantics_lines.specs.Shapes.{Field, Definition, Registry, definition_at}
+use Rattle.semantics_lines.specs.Events.{Key, named, nameless, ordered}
 use Rattle.semantics.specs.Places.{Path, below, under, is_end, Choice}
 use Rattle.semantics.specs.Keys.{Declared, alias_key, own_keys, Layout, keys_by, flat_keys, keys, path_of, or_path, stray_by, flat_stray, plan_of, leads, is_allowed}
 use Rattle.semantics.specs.Ends.{End, one_shape, leaf_end, FlatLeaf, leaf_flat, leaf_at}

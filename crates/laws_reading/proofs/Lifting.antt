@@ -1,9 +1,9 @@
 -- The cause of a fault in a part of a part is one in the whole.
 use Rattle.std.proofs.Common.{◌≡◌, inl, inr, ℕ, suc, List, [], ◌∷◌, ◌++◌, refl, sym, ap, ◌∙◌, subst, append_assoc}
-use Rattle.semantics.specs.Events.{Span, Event, span_of}
-use Rattle.semantics.specs.Faults.{Fault, Ending}
+use Rattle.semantics_lines.specs.Events.{Span, Event, span_of}
+use Rattle.semantics_lines.specs.Faults.{Fault, Ending}
 use Rattle.semantics.specs.Causes.{IsOpen, last_span, Part, Entered, IsDue, Cut, IsTooDeep, IsUnexpected, IsUnset, IsMissing, IsLacking, IsTooMany, IsOtherLength, IsDuplicate}
-use Rattle.semantics.specs.Recoding.{ended_at}
+use Rattle.semantics_lines.specs.Faults.{ended_at}
 use Rattle.laws_reading.specs.Values.{Terms}
 use Rattle.laws_reading.specs.Causes.{Cause, ran_out, too_deep_at, unexpected_at, unset_at, missing_at, other_length_at, too_many_at, duplicate_at}
 

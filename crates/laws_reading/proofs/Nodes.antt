@@ -1,9 +1,9 @@
 -- The reader of scalars and of nodes, and the meaning, in both directions.
 use Rattle.std.proofs.Common.{◌≡◌, ◌⊎◌, inl, inr, List, [], ◌∷◌, ◌++◌, Option, Some, None, Result, Ok, Err, Bool, true, false, cond, refl, sym, ap, ◌∙◌, subst}
 use Rattle.std.specs.List.{list_all}
-use Rattle.semantics.specs.Trees.{Tree}
-use Rattle.semantics.specs.Events.{Span, Scalar, Key, key_note, scalar, of_struct, Event, leaf, start}
-use Rattle.semantics.specs.Faults.{Step, Fault, Ending}
+use Rattle.semantics_lines.specs.Trees.{Tree}
+use Rattle.semantics_lines.specs.Events.{Span, Scalar, Key, key_note, scalar, of_struct, Event, leaf, start}
+use Rattle.semantics_lines.specs.Faults.{Step, Fault, Ending}
 use Rattle.semantics.specs.Runs.{Run, one, group, tagged, run_events, Entry}
 use Rattle.semantics.specs.Setters.{Outcome, set_scalar}
 use Rattle.semantics.specs.Reading.{value_of, set_to, set_by, is_argument, is_key, arguments, read_node, read_scalar}

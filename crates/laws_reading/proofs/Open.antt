@@ -1,6 +1,6 @@
 -- Events that begin a run and go on.
 use Rattle.std.proofs.Common.{◌≡◌, List, [], ◌∷◌, ◌++◌, refl, sym, ap, ◌∙◌, append_assoc}
-use Rattle.semantics.specs.Events.{Note, no_note, unit, Key, scalar, key, of_struct, of_sequence, ContainerKind, Event, leaf, start, stop}
+use Rattle.semantics_lines.specs.Events.{Note, no_note, unit, Key, scalar, key, of_struct, of_sequence, ContainerKind, Event, leaf, start, stop}
 use Rattle.semantics.specs.Runs.{Inside, close, Run, one, group, inside_events, run_events, runs_events, Entry, entries_events}
 use Rattle.semantics.specs.Causes.{IsOpen}
 use Rattle.laws_reading.proofs.Streams.{put_run, put_run_events, inside_of, inside_of_events}

@@ -1,8 +1,8 @@
 -- The reader of options, and the meaning, in both directions.
 use Rattle.std.proofs.Common.{◌≡◌, List, [], ◌∷◌, ◌++◌, Option, Some, None, Ok, Bool, true, false, cond, option_map, refl, sym, ap, ◌∙◌}
-use Rattle.semantics.specs.Trees.{Tree, none, some}
-use Rattle.semantics.specs.Events.{Span, Note, Scalar, scalar, key, tag, Event, leaf, start, stop}
-use Rattle.semantics.specs.Faults.{Step, Ending}
+use Rattle.semantics_lines.specs.Trees.{Tree, none, some}
+use Rattle.semantics_lines.specs.Events.{Span, Note, Scalar, scalar, key, tag, Event, leaf, start, stop}
+use Rattle.semantics_lines.specs.Faults.{Step, Ending}
 use Rattle.semantics.specs.Runs.{Run, one, group, tagged, run_events}
 use Rattle.semantics.specs.Reading.{is_nothing, holds_nothing, read_option}
 use Rattle.semantics.specs.Causes.{is_nothing_event, last_span}

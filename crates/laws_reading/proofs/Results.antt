@@ -1,8 +1,8 @@
 -- The reader of results, and the meaning, in both directions.
 use Rattle.std.proofs.Common.{◌≡◌, ℕ, List, [], ◌∷◌, ◌++◌, Option, Some, None, Ok, Bool, true, false, cond, option_map, option_and_then, bytes_eq, codes, refl, sym, ap, ◌∙◌, subst, append_assoc}
-use Rattle.semantics.specs.Trees.{Tree, ok, err}
-use Rattle.semantics.specs.Events.{Span, Note, Key, named, nameless, ordered, key_note, scalar, key, tag, of_struct, of_sequence, ContainerKind, Event, leaf, start, stop}
-use Rattle.semantics.specs.Faults.{Step, variant_step, Ending}
+use Rattle.semantics_lines.specs.Trees.{Tree, ok, err}
+use Rattle.semantics_lines.specs.Events.{Span, Note, Key, named, nameless, ordered, key_note, scalar, key, tag, of_struct, of_sequence, ContainerKind, Event, leaf, start, stop}
+use Rattle.semantics_lines.specs.Faults.{Step, variant_step, Ending}
 use Rattle.semantics.specs.Runs.{Inside, close, loose, Run, group, inside_events, run_events, Entry, entries}
 use Rattle.semantics.specs.Reading.{Source, from_events, Reader, read_object, by_outcome, read_result}
 use Rattle.semantics.specs.Causes.{last_span}

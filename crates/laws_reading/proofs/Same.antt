@@ -1,6 +1,6 @@
 -- What was read of entries is read again as the same.
 use Rattle.std.proofs.Common.{◌≡◌, ℕ, zero, suc, List, [], ◌∷◌, length, Option, Some, Bool, true, false, cond, not, ◌&&◌, ◌||◌, refl, ap, ap₂, ◌∙◌}
-use Rattle.semantics.specs.Shapes.{Field, Definition, Registry, definition_at}
+use Rattle.semantics_lines.specs.Shapes.{Field, Definition, Registry, definition_at}
 use Rattle.semantics.specs.Places.{Path, At, below, is_end, has_whole, Choice}
 use Rattle.semantics.specs.Keys.{Layout}
 use Rattle.semantics.specs.Reading.{of_shape, Parts, FlatReader, read_own, in_parts, read_field, and_trees, read_fields, read_flat, read_layout}

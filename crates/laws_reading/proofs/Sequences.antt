@@ -2,9 +2,9 @@
 use Rattle.std.proofs.Common.{◌≡◌, ℕ, zero, suc, ◌+◌, ◌<◌, List, [], ◌∷◌, ◌++◌, length, Option, Some, None, Result, Ok, Bool, true, false, cond, option_map, option_and_then, refl, sym, ap, ap₂, ◌∙◌, subst, append_assoc, length-append, arith}
 use Rattle.std.proofs.lemmas.List.{append-nil}
 use Rattle.std.proofs.lemmas.Bool.{eqb-true, lt-ltb}
-use Rattle.semantics.specs.Trees.{Tree, list, Trees, no_trees, tree, trees_of}
-use Rattle.semantics.specs.Events.{Span, Note, of_struct, of_sequence, ContainerKind, Event, leaf, start, stop}
-use Rattle.semantics.specs.Faults.{Step, index_step, Fault, Ending}
+use Rattle.semantics_lines.specs.Trees.{Tree, list, Trees, no_trees, tree, trees_of}
+use Rattle.semantics_lines.specs.Events.{Span, Note, of_struct, of_sequence, ContainerKind, Event, leaf, start, stop}
+use Rattle.semantics_lines.specs.Faults.{Step, index_step, Fault, Ending}
 use Rattle.semantics.specs.Runs.{Inside, Run, one, group, tagged, inside_events, run_events, items, runs_events}
 use Rattle.semantics.specs.Typed.{has_length}
 use Rattle.semantics.specs.Reading.{and_trees, read_sequence, read_each, read_items}

@@ -1,7 +1,7 @@
 -- What came of a sequence or an object so far: its start, and whole items or entries.
 use Rattle.std.proofs.Common.{◌≡◌, ℕ, suc, ◌<◌, List, [], ◌∷◌, ◌++◌, length, sym, ap, ◌∙◌, append_assoc, length-append, arith}
 use Rattle.std.proofs.lemmas.List.{append-nil}
-use Rattle.semantics.specs.Events.{Span, Note, Key, key_note, key, of_struct, of_sequence, ContainerKind, Event, leaf, start}
+use Rattle.semantics_lines.specs.Events.{Span, Note, Key, key_note, key, of_struct, of_sequence, ContainerKind, Event, leaf, start}
 use Rattle.semantics.specs.Runs.{Run, run_events, runs_events, Entry, entries_events}
 use Rattle.semantics.specs.Causes.{last_span}
 use Rattle.laws_reading.proofs.Objects.{entry}

@@ -1,11 +1,11 @@
 -- Where the loop over the entries of an object stops with a fault.
 use Rattle.std.proofs.Common.{◌≡◌, inl, inr, ℕ, zero, suc, ◌+◌, ◌<◌, List, [], ◌∷◌, ◌++◌, length, Option, Result, Err, Bool, true, false, refl, sym, ap, ◌∙◌, subst, append_assoc, length-append, arith}
 use Rattle.std.proofs.lemmas.List.{append-nil}
-use Rattle.semantics.specs.Events.{Span, Note, Key, scalar, key, tag, of_struct, of_sequence, ContainerKind, Event, leaf, start, stop, key_note, span_of}
-use Rattle.semantics.specs.Faults.{Step, unexpected_token, Fault, Ending}
+use Rattle.semantics_lines.specs.Events.{Span, Note, Key, scalar, key, tag, of_struct, of_sequence, ContainerKind, Event, leaf, start, stop, key_note, span_of}
+use Rattle.semantics_lines.specs.Faults.{Step, unexpected_token, Fault, Ending}
 use Rattle.semantics.specs.Runs.{Run, run_events, Entry, entries_events}
 use Rattle.semantics.specs.Causes.{last_span}
-use Rattle.semantics.specs.Recoding.{ended_at}
+use Rattle.semantics_lines.specs.Faults.{ended_at}
 use Rattle.laws_reading.specs.Input.{Input, feed, ◌>>=◌, turned, turning}
 use Rattle.laws_reading.specs.Objects.{Takes, Finish, goes_with, entry_at, entries_at, with_rest, finished, object_at}
 use Rattle.laws_reading.specs.Causes.{fault}

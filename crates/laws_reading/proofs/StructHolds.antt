@@ -2,10 +2,10 @@
 use Rattle.std.proofs.Common.{◌≡◌, ℕ, List, [], ◌∷◌, ◌++◌, Option, Some, None, Result, Ok, Bool, true, false, cond, not, ◌&&◌, refl, sym, ap, ◌∙◌, subst}
 use Rattle.std.specs.List.{cons_option}
 use Rattle.std.proofs.lemmas.List.{append-nil}
-use Rattle.semantics.specs.Trees.{Tree}
-use Rattle.semantics.specs.Shapes.{Registry}
-use Rattle.semantics.specs.Events.{Key}
-use Rattle.semantics.specs.Faults.{Step, duplicate_field, Fault}
+use Rattle.semantics_lines.specs.Trees.{Tree}
+use Rattle.semantics_lines.specs.Shapes.{Registry}
+use Rattle.semantics_lines.specs.Events.{Key}
+use Rattle.semantics_lines.specs.Faults.{Step, duplicate_field, Fault}
 use Rattle.semantics.specs.Runs.{Run, Entry}
 use Rattle.semantics.specs.Places.{Path, At, has_whole, Choice}
 use Rattle.semantics.specs.Keys.{Layout, Plan, plan_of, leads, after_key, with_entry, placed, is_allowed}

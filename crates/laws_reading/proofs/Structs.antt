@@ -2,10 +2,10 @@
 use Rattle.std.proofs.Common.{◌≡◌, ◌⊎◌, inl, inr, ℕ, List, [], ◌∷◌, ◌++◌, Option, Some, None, Result, Ok, Err, Bool, true, false, cond, not, ◌&&◌, option_map, refl, sym, ap, ◌∙◌, subst}
 use Rattle.std.specs.List.{cons_option}
 use Rattle.std.proofs.lemmas.List.{append-nil}
-use Rattle.semantics.specs.Trees.{Tree, structure, Trees}
-use Rattle.semantics.specs.Shapes.{Registry}
-use Rattle.semantics.specs.Events.{Span, Key, Event}
-use Rattle.semantics.specs.Faults.{Step, duplicate_field, Fault, Ending}
+use Rattle.semantics_lines.specs.Trees.{Tree, structure, Trees}
+use Rattle.semantics_lines.specs.Shapes.{Registry}
+use Rattle.semantics_lines.specs.Events.{Span, Key, Event}
+use Rattle.semantics_lines.specs.Faults.{Step, duplicate_field, Fault, Ending}
 use Rattle.semantics.specs.Runs.{Run, run_events, Entry}
 use Rattle.semantics.specs.Places.{Path, At, Choice}
 use Rattle.semantics.specs.Keys.{Layout, plan_of, leads, after_key, with_entry, placed, is_allowed, are_allowed}

@@ -1,8 +1,8 @@
 -- The reader of events, and the meaning of runs, for all shapes.
 use Rattle.std.proofs.Common.{ℕ, zero, suc, [], Option, Some, None, Bool, true, false, cond}
-use Rattle.semantics.specs.Shapes.{is_tuple, StructShape, Definition, scalar_shape, option_shape, result_shape, list_shape, array_shape, set_shape, map_shape, struct_shape, enum_shape, transparent_shape, definition_at}
+use Rattle.semantics_lines.specs.Shapes.{is_tuple, StructShape, Definition, scalar_shape, option_shape, result_shape, list_shape, array_shape, set_shape, map_shape, struct_shape, enum_shape, transparent_shape, definition_at}
 use Rattle.semantics.specs.Runs.{Run}
-use Rattle.semantics.specs.Trees.{Tree}
+use Rattle.semantics_lines.specs.Trees.{Tree}
 use Rattle.semantics.specs.Reading.{Source, from_events, Reader, part_value, read_object, read_struct, plain_layout, read_tuple, read_as, read_shape, read}
 use Rattle.laws_reading.specs.Input.{refused_at}
 use Rattle.laws_reading.specs.Structs.{ReadsPart, end_at}

@@ -1,11 +1,11 @@
 -- The faults of a tuple itself: an item behind the last one that it has, and one that is lacking at its end.
 use Rattle.std.proofs.Common.{◌≡◌, inl, inr, ℕ, zero, suc, ◌+◌, ◌<◌, ◌≤◌, List, [], ◌∷◌, ◌++◌, length, drop, slice_get, Option, Some, None, option_and_then, Err, true, false, cond, refl, sym, ap, ◌∙◌, arith}
 use Rattle.std.proofs.lemmas.Option.{slice_get_cases}
-use Rattle.semantics.specs.Trees.{Tree}
-use Rattle.semantics.specs.Shapes.{is_tuple, Field, StructShape, struct_shape, definition_at}
+use Rattle.semantics_lines.specs.Trees.{Tree}
+use Rattle.semantics_lines.specs.Shapes.{is_tuple, Field, StructShape, struct_shape, definition_at}
 use Rattle.semantics.specs.Typed.{tuple_of}
-use Rattle.semantics.specs.Events.{Span, Event, span_of}
-use Rattle.semantics.specs.Faults.{Step, missing_field, too_many_elements, reflect, Fault, Ending}
+use Rattle.semantics_lines.specs.Events.{Span, Event, span_of}
+use Rattle.semantics_lines.specs.Faults.{Step, missing_field, too_many_elements, reflect, Fault, Ending}
 use Rattle.semantics.specs.Runs.{Run}
 use Rattle.semantics.specs.Reading.{of_shape, Source, fill, plain_layout, read_struct, read_object, read_tuple, read_shape, read}
 use Rattle.semantics.specs.Causes.{last_span, IsTuple, stands_for_part, takes_object, takes_sequence, Stands, ItemsEnd, AnotherItem}

@@ -2,10 +2,10 @@
 use Rattle.std.proofs.Common.{◌≡◌, ℕ, zero, suc, ◌<◌, List, [], ◌∷◌, ◌++◌, length, drop, Some, Result, Ok, Bool, refl, sym, ap, ap₂, ◌∙◌, subst, append_assoc, length-append, arith}
 use Rattle.std.proofs.lemmas.List.{append-nil}
 use Rattle.std.specs.Prelude.{slice_get}
-use Rattle.semantics.specs.Trees.{Tree, Trees, tree}
-use Rattle.semantics.specs.Shapes.{Field, Registry}
-use Rattle.semantics.specs.Events.{Span, Note, key_note, key, of_struct, of_sequence, Event, leaf, stop}
-use Rattle.semantics.specs.Faults.{Step, Fault, Ending}
+use Rattle.semantics_lines.specs.Trees.{Tree, Trees, tree}
+use Rattle.semantics_lines.specs.Shapes.{Field, Registry}
+use Rattle.semantics_lines.specs.Events.{Span, Note, key_note, key, of_struct, of_sequence, Event, leaf, stop}
+use Rattle.semantics_lines.specs.Faults.{Step, Fault, Ending}
 use Rattle.semantics.specs.Runs.{Run, one, group, tagged, run_events, Entry, entries_events, runs_events}
 use Rattle.semantics.specs.Reading.{Source, from_events, Reader, and_trees, read_elements, entry_runs}
 use Rattle.semantics.specs.Causes.{last_span}

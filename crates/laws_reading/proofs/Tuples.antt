@@ -1,9 +1,9 @@
 -- The reader of tuples, and the meaning, in both directions.
 use Rattle.std.proofs.Common.{◌≡◌, ℕ, ◌+◌, List, [], ◌∷◌, ◌++◌, length, Option, Some, None, Result, Ok, Bool, true, false, cond, not, ◌&&◌, option_map, option_and_then, refl, sym, ap, ◌∙◌, subst, arith}
-use Rattle.semantics.specs.Trees.{Tree, structure, Trees, no_trees}
-use Rattle.semantics.specs.Shapes.{StructShape, Registry}
-use Rattle.semantics.specs.Events.{Span, Note, Scalar, scalar, of_struct, of_sequence, object_kind, array_kind, Event, leaf, start, stop}
-use Rattle.semantics.specs.Faults.{Step, Fault, Ending}
+use Rattle.semantics_lines.specs.Trees.{Tree, structure, Trees, no_trees}
+use Rattle.semantics_lines.specs.Shapes.{StructShape, Registry}
+use Rattle.semantics_lines.specs.Events.{Span, Note, Scalar, scalar, of_struct, of_sequence, object_kind, array_kind, Event, leaf, start, stop}
+use Rattle.semantics_lines.specs.Faults.{Step, Fault, Ending}
 use Rattle.semantics.specs.Runs.{Inside, Run, one, group, tagged, inside_events, run_events, Entry, entries, items, entries_events, runs_events}
 use Rattle.semantics.specs.Registry.{has_some}
 use Rattle.semantics.specs.Reading.{Setting, Source, Reader, is_nothing, read_elements, entry_runs, read_tuple}

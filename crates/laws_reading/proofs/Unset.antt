@@ -1,12 +1,12 @@
 -- Why a scalar sets no value: for one of four reasons.
 use Rattle.std.proofs.Common.{◌≡◌, ℕ, ℤ, pos, negsuc, List, Option, Some, None, Ok, Err, Bool, true, false, cond, ◌&&◌}
 use Rattle.std.specs.Fmt.{signed_decimal}
-use Rattle.semantics.specs.Texts.{Phrase}
-use Rattle.semantics.specs.Trees.{Tree, unsigned, signed, text}
-use Rattle.semantics.specs.Shapes.{ScalarType, unit_type, bool_type, char_type, unsigned_type, signed_type, string_type, str_type}
-use Rattle.semantics.specs.Scalars.{fits_unsigned, fits_signed}
-use Rattle.semantics.specs.Events.{Scalar, unit, null, bool, char, i64, u64, i128, u128, str, bytes}
-use Rattle.semantics.specs.Faults.{FaultKind, number_out_of_range, cannot_borrow, reflect, parse_failed, wrong_kind}
+use Rattle.semantics_lines.specs.Texts.{Phrase}
+use Rattle.semantics_lines.specs.Trees.{Tree, unsigned, signed, text}
+use Rattle.semantics_lines.specs.Shapes.{ScalarType, unit_type, bool_type, char_type, unsigned_type, signed_type, string_type, str_type}
+use Rattle.semantics_lines.specs.Scalars.{fits_unsigned, fits_signed}
+use Rattle.semantics_lines.specs.Events.{Scalar, unit, null, bool, char, i64, u64, i128, u128, str, bytes}
+use Rattle.semantics_lines.specs.Faults.{FaultKind, number_out_of_range, cannot_borrow, reflect, parse_failed, wrong_kind}
 use Rattle.semantics.specs.Setters.{of_wrong_kind, out_of_range, set_bool, set_char, set_number, set_number_or_text, lent, parsed, read_text, set_text, set_scalar}
 
 -- the kinds of the setters' faults

@@ -1,9 +1,9 @@
 -- What the reader's faults say of the events that it was given.
 use Rattle.std.specs.Prelude.{◌≡◌, ◌⊎◌, ℕ, List, [], Some, Err}
 use Rattle.semantics.specs.Registry.{IsRegistry}
-use Rattle.semantics.specs.Trees.{Tree}
-use Rattle.semantics.specs.Events.{Span, Event}
-use Rattle.semantics.specs.Faults.{Step, FaultKind, unexpected_token, missing_field, duplicate_field, array_length, too_many_elements, reflect, too_deep, Fault, Ending}
+use Rattle.semantics_lines.specs.Trees.{Tree}
+use Rattle.semantics_lines.specs.Events.{Span, Event}
+use Rattle.semantics_lines.specs.Faults.{Step, FaultKind, unexpected_token, missing_field, duplicate_field, array_length, too_many_elements, reflect, too_deep, Fault, Ending}
 use Rattle.semantics.specs.Reading.{Source, from_events, of_shape}
 use Rattle.semantics.specs.Causes.{Part, IsTooDeep, IsUnexpected, IsUnset, IsMissing, IsLacking, IsTooMany, IsOtherLength, IsDuplicate}
 use Rattle.semantics.specs.Recoding.{RanOut, HasCauseFrom}

@@ -1,7 +1,7 @@
 -- What reading events has to do with the meaning of runs.
 use Rattle.std.specs.Prelude.{◌≡◌, ℕ, List, ◌++◌, Option, Some, None, Ok, Err}
-use Rattle.semantics.specs.Events.{Span, Event}
-use Rattle.semantics.specs.Faults.{Step, Fault, Ending}
+use Rattle.semantics_lines.specs.Events.{Span, Event}
+use Rattle.semantics_lines.specs.Faults.{Step, Fault, Ending}
 use Rattle.semantics.specs.Runs.{Run, run_events}
 use Rattle.semantics.specs.Reading.{Source, read}
 use Rattle.semantics.specs.Causes.{last_span}

@@ -1,10 +1,10 @@
 -- An option of an option: what one of its values loses.
 use Rattle.std.specs.Prelude.{◌≡◌, ℕ, true, [], ◌∷◌, ◌++◌, Some, Ok, codes}
-use Rattle.semantics.specs.Trees.{none, some}
-use Rattle.semantics.specs.Shapes.{option_shape, Registry}
-use Rattle.semantics.specs.Events.{null}
-use Rattle.semantics.specs.Calls.{null_literal}
-use Rattle.semantics.specs.Documents.{plain}
+use Rattle.semantics_lines.specs.Trees.{none, some}
+use Rattle.semantics_lines.specs.Shapes.{option_shape, Registry}
+use Rattle.semantics_lines.specs.Events.{null}
+use Rattle.semantics_lines.specs.Calls.{null_literal}
+use Rattle.semantics_lines.specs.Documents.{plain}
 use Rattle.semantics.specs.Typed.{typed}
 use Rattle.semantics.specs.Writing.{write}
 use Rattle.semantics.specs.Reading.{Setting, from_events, read}

@@ -1,9 +1,9 @@
 -- Scalars: one event, or a node whose argument is one.
 use Rattle.std.specs.Prelude.{ℕ, List, Option, Some, None, Result, Ok, Err, Bool, cond}
-use Rattle.semantics.specs.Trees.{Tree}
-use Rattle.semantics.specs.Shapes.{ScalarType}
-use Rattle.semantics.specs.Events.{Span, Scalar, Key, key_note, scalar, of_struct, Event, leaf, start}
-use Rattle.semantics.specs.Faults.{Step, duplicate_field, Fault}
+use Rattle.semantics_lines.specs.Trees.{Tree}
+use Rattle.semantics_lines.specs.Shapes.{ScalarType}
+use Rattle.semantics_lines.specs.Events.{Span, Scalar, Key, key_note, scalar, of_struct, Event, leaf, start}
+use Rattle.semantics_lines.specs.Faults.{Step, duplicate_field, Fault}
 use Rattle.semantics.specs.Setters.{Outcome, set_scalar}
 use Rattle.semantics.specs.Reading.{key_text, is_argument, is_key}
 use Rattle.laws_reading.specs.Input.{Input, ◌>>=◌, Reads, refused, unexpected, taken_at, peeked_at}

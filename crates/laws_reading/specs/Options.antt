@@ -1,8 +1,8 @@
 -- Options and results.
 use Rattle.std.specs.Prelude.{ℕ, List, [], ◌∷◌, ◌++◌, Option, Some, None, Result, Ok, Bool, true, false}
-use Rattle.semantics.specs.Trees.{Tree, none, some, ok, err}
-use Rattle.semantics.specs.Events.{key, of_struct, Event, leaf, start, stop}
-use Rattle.semantics.specs.Faults.{Step, variant_step, Fault}
+use Rattle.semantics_lines.specs.Trees.{Tree, none, some, ok, err}
+use Rattle.semantics_lines.specs.Events.{key, of_struct, Event, leaf, start, stop}
+use Rattle.semantics_lines.specs.Faults.{Step, variant_step, Fault}
 use Rattle.semantics.specs.Reading.{from_events, by_outcome}
 use Rattle.semantics.specs.Causes.{is_nothing_event, Side, ok_side, err_side}
 use Rattle.laws_reading.specs.Input.{Input, ◌>>=◌, Reads, unexpected, taken_at, peeked_at}

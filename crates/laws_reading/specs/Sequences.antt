@@ -1,8 +1,8 @@
 -- Lists and arrays.
 use Rattle.std.specs.Prelude.{ℕ, ◌+◌, List, [], ◌∷◌, ◌++◌, length, Option, Some, None, Result, Ok, Bool, true, false}
-use Rattle.semantics.specs.Trees.{Tree, list, trees_of}
-use Rattle.semantics.specs.Events.{of_sequence, Event, start}
-use Rattle.semantics.specs.Faults.{Step, index_step, array_length, reflect, Fault}
+use Rattle.semantics_lines.specs.Trees.{Tree, list, trees_of}
+use Rattle.semantics_lines.specs.Events.{of_sequence, Event, start}
+use Rattle.semantics_lines.specs.Faults.{Step, index_step, array_length, reflect, Fault}
 use Rattle.semantics.specs.Typed.{has_length}
 use Rattle.semantics.specs.Causes.{ends_sequence, has_room}
 use Rattle.laws_reading.specs.Input.{Input, ◌>>=◌, Reads, refused, never, unexpected, taken_at, peeked_at, turning}

@@ -1,9 +1,9 @@
 -- Structs: what is read behind each key is kept under the path of its field, and gathered at the end.
 use Rattle.std.specs.Prelude.{ℕ, zero, suc, List, [], ◌∷◌, ◌++◌, length, Option, Some, None, Result, Ok, Bool, true, false, cond, not, ◌&&◌, ◌||◌}
-use Rattle.semantics.specs.Trees.{Tree, structure, Trees, no_trees, tree}
-use Rattle.semantics.specs.Shapes.{Field, Definition, Registry, definition_at}
-use Rattle.semantics.specs.Events.{Span, Key, key_note}
-use Rattle.semantics.specs.Faults.{Step, field_step, missing_field, duplicate_field, Fault}
+use Rattle.semantics_lines.specs.Trees.{Tree, structure, Trees, no_trees, tree}
+use Rattle.semantics_lines.specs.Shapes.{Field, Definition, Registry, definition_at}
+use Rattle.semantics_lines.specs.Events.{Span, Key, key_note}
+use Rattle.semantics_lines.specs.Faults.{Step, field_step, missing_field, duplicate_field, Fault}
 use Rattle.semantics.specs.Places.{Path, At, below, is_end, has_whole, Choice}
 use Rattle.semantics.specs.Keys.{Layout, Plan, plan_of, leads, after_key, is_allowed}
 use Rattle.semantics.specs.Reading.{Source, Part, of_shape, of_variant, of_tag, of_entry, Parts, key_text, source_of, fill, in_parts}

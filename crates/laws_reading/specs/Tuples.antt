@@ -1,9 +1,9 @@
 -- Tuples.
 use Rattle.std.specs.Prelude.{ℕ, ◌+◌, List, [], ◌∷◌, ◌++◌, length, drop, slice_get, Option, Some, None, Result, Ok, Bool, true, false, ◌&&◌, not}
-use Rattle.semantics.specs.Trees.{Tree, structure, trees_of}
-use Rattle.semantics.specs.Shapes.{Field, Registry}
-use Rattle.semantics.specs.Events.{scalar, key, of_struct, of_sequence, object_kind, Event, leaf, start, stop}
-use Rattle.semantics.specs.Faults.{Step, index_step, missing_field, too_many_elements, reflect, Fault}
+use Rattle.semantics_lines.specs.Trees.{Tree, structure, trees_of}
+use Rattle.semantics_lines.specs.Shapes.{Field, Registry}
+use Rattle.semantics_lines.specs.Events.{scalar, key, of_struct, of_sequence, object_kind, Event, leaf, start, stop}
+use Rattle.semantics_lines.specs.Faults.{Step, index_step, missing_field, too_many_elements, reflect, Fault}
 use Rattle.semantics.specs.Registry.{has_some}
 use Rattle.semantics.specs.Reading.{Setting, from_events, fill, is_nothing}
 use Rattle.semantics.specs.Causes.{ends_sequence}

@@ -1,8 +1,8 @@
 -- Values of every shape.
 use Rattle.std.specs.Prelude.{ℕ, zero, suc, [], Option, Some, None, Bool, true, false}
-use Rattle.semantics.specs.Trees.{Tree}
-use Rattle.semantics.specs.Shapes.{ScalarType, is_tuple, StructShape, Definition, scalar_shape, option_shape, result_shape, list_shape, array_shape, struct_shape, transparent_shape, definition_at}
-use Rattle.semantics.specs.Faults.{too_deep}
+use Rattle.semantics_lines.specs.Trees.{Tree}
+use Rattle.semantics_lines.specs.Shapes.{ScalarType, is_tuple, StructShape, Definition, scalar_shape, option_shape, result_shape, list_shape, array_shape, struct_shape, transparent_shape, definition_at}
+use Rattle.semantics_lines.specs.Faults.{too_deep}
 use Rattle.semantics.specs.Reading.{Setting, Source, from_events, plain_layout}
 use Rattle.laws_reading.specs.Input.{Reads, refused, refused_at}
 use Rattle.laws_reading.specs.Structs.{ReadsPart, end_at, struct_at}

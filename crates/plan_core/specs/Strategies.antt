@@ -1,8 +1,8 @@
 -- How the values of a shape are read, as its definition decides.
 use Rattle.std.specs.Prelude.{ℕ, length, List, map, Bool, true, false, cond, Option, Some}
 use Rattle.std.specs.List.{list_any}
-use Rattle.semantics.specs.Shapes.{ScalarType, unsigned_type, bits8, StructKind, tuple_kind, tuple_struct_kind, StructShape, Definition, scalar_shape, option_shape, result_shape, list_shape, array_shape, set_shape, map_shape, struct_shape, enum_shape, transparent_shape, Registry, definition_at}
-use Rattle.shape_core.specs.Scalars.{scalar_type_of}
+use Rattle.semantics_lines.specs.Shapes.{ScalarType, unsigned_type, bits8, StructKind, tuple_kind, tuple_struct_kind, StructShape, Definition, scalar_shape, option_shape, result_shape, list_shape, array_shape, set_shape, map_shape, struct_shape, enum_shape, transparent_shape, Registry, definition_at}
+use Rattle.shape_types.specs.Scalars.{scalar_type_of}
 use Rattle.plan_core.specs.declared.strategy.DeserStrategy.{DeserStrategy}
 use Rattle.plan_core.specs.declared.strategy.DeserStrategy.TheVariants as declared
 

@@ -1,7 +1,7 @@
 //! The plans of all shapes of a registry.
 ghost use Rattle.std.specs.Prelude.{◌≡◌, ◌<◌, Some, length, option_map, IfOk};
-ghost use Rattle.semantics.specs.Shapes.{definition_at};
-ghost use Rattle.shape_core.specs.Shapes.{registry};
+ghost use Rattle.semantics_lines.specs.Shapes.{definition_at};
+ghost use Rattle.shape_types.specs.Shapes.{registry};
 ghost use Rattle.plan_core.specs.Strategies.{strategy_in, strategy_view};
 
 use crate::strategy::{DeserStrategy, strategy_of};

@@ -1,8 +1,8 @@
 //! How the values of a shape are read.
 ghost use Rattle.std.specs.Prelude.{◌≡◌};
 ghost use Rattle.std.specs.List.{list_any};
-ghost use Rattle.semantics.specs.Shapes.{definition_at};
-ghost use Rattle.shape_core.specs.Shapes.{definition_of, field_of, registry, struct_shape_of};
+ghost use Rattle.semantics_lines.specs.Shapes.{definition_at};
+ghost use Rattle.shape_types.specs.Shapes.{definition_of, field_of, registry, struct_shape_of};
 ghost use Rattle.plan_core.specs.Strategies.{is_byte, strategy_in, strategy_view, struct_strategy};
 
 use shape_core::{Def, Field, ScalarType, ShapeId, Shapes, StructDef, StructKind};

@@ -7,8 +7,8 @@ use Rattle.std.specs.Result.{OkIff}
 use Rattle.std.proofs.lemmas.Bool.{ltb-true, lt-ltb, eqb-true, eqb-false}
 use Rattle.std.proofs.lemmas.Str.Parse.{IsNumeralModel, numerals_by_fold, tells_all_ascii_digits, parse_plain, parse_plus, parse_signed_plain, parse_signed_plus, parse_signed_minus}
 use mir.Syntax.{w128}
-use Rattle.semantics.specs.Shapes.{bits128}
-use Rattle.semantics.specs.Scalars.{fits_unsigned, fits_signed}
+use Rattle.semantics_lines.specs.Shapes.{bits128}
+use Rattle.semantics_lines.specs.Scalars.{fits_unsigned, fits_signed}
 use Rattle.semantics.specs.Numerals.{written_behind, digits, whole_number, signed_whole_number, negated, passing, unsigned_text, signed_text}
 
 -- the words of the definitions are those of digits

@@ -2,8 +2,8 @@
 use Rattle.std.proofs.Common.{◌≡◌, ℕ, ℤ, pos, negsuc, ◌^◌, ◌<◌, ◌≤◌, Bool, true, false, cond, Option, Some, None, refl, arith}
 use Rattle.std.specs.Prelude.{nat_lt}
 use Rattle.std.proofs.lemmas.Bool.{ltb-true, lt-ltb}
-use Rattle.semantics.specs.Shapes.{Width, bits8, bits16, bits32, bits64, bits128, address, ScalarType, unit_type, bool_type, char_type, unsigned_type, signed_type, string_type, str_type}
-use Rattle.semantics.specs.Scalars.{bits, half_bits, fits_unsigned, fits_signed}
+use Rattle.semantics_lines.specs.Shapes.{Width, bits8, bits16, bits32, bits64, bits128, address, ScalarType, unit_type, bool_type, char_type, unsigned_type, signed_type, string_type, str_type}
+use Rattle.semantics_lines.specs.Scalars.{bits, half_bits, fits_unsigned, fits_signed}
 use Rattle.semantics.specs.Typed.{takes_unsigned, takes_signed}
 use Rattle.semantics.specs.Numerals.{passing}
 

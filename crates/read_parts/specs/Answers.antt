@@ -1,10 +1,10 @@
 -- What a setter answers, as the definitions see it.
 use Rattle.std.specs.Prelude.{◌≡◌, ◌⊎◌, ℕ, List, [], Result, Ok, Err, codes}
-use Rattle.semantics.specs.Faults.{FaultKind, out_of_memory}
+use Rattle.semantics_lines.specs.Faults.{FaultKind, out_of_memory}
 use Rattle.semantics.specs.Setters.{Outcome}
-use Rattle.shape_core.specs.Texts.{text_bytes}
-use Rattle.shape_core.specs.Trees.{tree_of}
-use Rattle.shape_core.specs.declared.value.Value.{Value}
+use Rattle.shape_types.specs.Texts.{text_bytes}
+use Rattle.shape_types.specs.Trees.{tree_of}
+use Rattle.shape_types.specs.declared.value.Value.{Value}
 use Rattle.event_core.specs.Faults.{fault_kind_of}
 use Rattle.event_core.specs.declared.reflect.ReflectErrorKind.{ReflectErrorKind}
 use Rattle.event_core.specs.declared.reflect.ReflectErrorKind.TheVariants as refusals

@@ -1,8 +1,8 @@
 -- What a scalar is set into, as the definitions see it.
 use Rattle.std.specs.Prelude.{ℕ, List, [], option_map, unwrap_or, slice_get}
-use Rattle.semantics.specs.Shapes.{ScalarType, Registry}
+use Rattle.semantics_lines.specs.Shapes.{ScalarType, Registry}
 use Rattle.semantics.specs.Setters.{type_name}
-use Rattle.shape_core.specs.Scalars.{scalar_type_of}
+use Rattle.shape_types.specs.Scalars.{scalar_type_of}
 use Rattle.read_parts.specs.Answers.{Names}
 use Rattle.read_parts.specs.declared.target.Target.{Target}
 

@@ -1,11 +1,11 @@
 //! Whole numbers, which have to be in the range of their type.
 ghost use Rattle.std.specs.Prelude.{◌≡◌, IfSome, pos, Ok, false, cond, negsuc, ℕ};
-ghost use Rattle.semantics.specs.Trees.{unsigned, signed, text};
+ghost use Rattle.semantics_lines.specs.Trees.{unsigned, signed, text};
 ghost use Rattle.semantics.specs.Typed.{takes_unsigned, takes_signed};
 ghost use Rattle.semantics.specs.Setters.{out_of_range, set_number, set_number_or_text};
 ghost use Rattle.read_parts.specs.Answers.{Gives};
 ghost use Rattle.read_parts.specs.Targets.{target_type, target_shape, names_of};
-ghost use Rattle.shape_core.specs.Scalars.{scalar_type_of};
+ghost use Rattle.shape_types.specs.Scalars.{scalar_type_of};
 
 use crate::target::{Target, out_of_memory};
 use event_core::DeserializeErrorKind;

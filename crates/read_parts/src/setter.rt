@@ -1,10 +1,10 @@
 //! What a scalar of an event gives to a scalar shape.
 ghost use Rattle.std.specs.Prelude.{◌≡◌, ◌<◌, length, IsSome, IfSome, Some, Ok};
 ghost use Rattle.semantics.specs.Typed.{scalar_at};
-ghost use Rattle.semantics.specs.Defaults.{scalar_default};
+ghost use Rattle.semantics_lines.specs.Scalars.{scalar_default};
 ghost use Rattle.semantics.specs.Setters.{set_bool, set_char, set_scalar};
-ghost use Rattle.shape_core.specs.Shapes.{registry};
-ghost use Rattle.shape_core.specs.Scalars.{scalar_type_of};
+ghost use Rattle.shape_types.specs.Shapes.{registry};
+ghost use Rattle.shape_types.specs.Scalars.{scalar_type_of};
 ghost use Rattle.event_core.specs.Events.{scalar_of};
 ghost use Rattle.event_core.specs.Kinds.{scalar_name as event_name};
 ghost use Rattle.read_parts.specs.Answers.{Gives};

@@ -1,6 +1,6 @@
 //! What a scalar is set into, and how that is refused.
 ghost use Rattle.std.specs.Prelude.{◌≡◌, IfOk, IfSome};
-ghost use Rattle.semantics.specs.Faults.{reflect, wrong_kind, parse_failed, number_out_of_range, cannot_borrow};
+ghost use Rattle.semantics_lines.specs.Faults.{reflect, wrong_kind, parse_failed, number_out_of_range, cannot_borrow};
 ghost use Rattle.read_parts.specs.Answers.{IsWantOfMemory, Refuses};
 ghost use Rattle.read_parts.specs.Targets.{target_shape, names_of};
 

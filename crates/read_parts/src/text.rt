@@ -1,13 +1,13 @@
 //! Texts, and what is read of them.
 ghost use Rattle.std.specs.Prelude.{◌≡◌, Some, None, Ok, option_map};
-ghost use Rattle.semantics.specs.Shapes.{bits128};
-ghost use Rattle.semantics.specs.Trees.{text as text_tree};
+ghost use Rattle.semantics_lines.specs.Shapes.{bits128};
+ghost use Rattle.semantics_lines.specs.Trees.{text as text_tree};
 ghost use Rattle.semantics.specs.Typed.{takes_unsigned, takes_signed};
 ghost use Rattle.semantics.specs.Numerals.{passing, whole_number, signed_whole_number, unsigned_text, signed_text, bool_text, char_text};
 ghost use Rattle.semantics.specs.Setters.{parsed, lent, kept, read_text, set_text};
-ghost use Rattle.shape_core.specs.Scalars.{scalar_type_of};
-ghost use Rattle.shape_core.specs.Texts.{phrase_of};
-ghost use Rattle.shape_core.specs.Trees.{tree_of};
+ghost use Rattle.shape_types.specs.Scalars.{scalar_type_of};
+ghost use Rattle.shape_types.specs.Texts.{phrase_of};
+ghost use Rattle.shape_types.specs.Trees.{tree_of};
 ghost use Rattle.read_parts.specs.Answers.{Gives};
 ghost use Rattle.read_parts.specs.Targets.{target_type, target_shape, names_of};
 

@@ -1,9 +1,9 @@
 -- Values whose first event is at hand, as the code begins them.
 use Rattle.std.proofs.Common.{◌≡◌, ℕ, zero, suc, ◌<◌, ◌-◌, List, [], ◌∷◌, slice_get, Option, Some, None, Err, Ok, Bool, true, false, cond, not, ◌&&◌, refl, sym, ap, ◌∙◌, arith}
-use Rattle.semantics.specs.Trees.{none}
-use Rattle.semantics.specs.Shapes.{Field, StructShape, is_tuple, Definition, option_shape, struct_shape, transparent_shape, definition_at}
-use Rattle.semantics.specs.Events.{Span, scalar, key, tag, of_struct, of_sequence, object_kind, array_kind, Event, leaf, start, stop, span_of}
-use Rattle.semantics.specs.Faults.{too_deep}
+use Rattle.semantics_lines.specs.Trees.{none}
+use Rattle.semantics_lines.specs.Shapes.{Field, StructShape, is_tuple, Definition, option_shape, struct_shape, transparent_shape, definition_at}
+use Rattle.semantics_lines.specs.Events.{Span, scalar, key, tag, of_struct, of_sequence, object_kind, array_kind, Event, leaf, start, stop, span_of}
+use Rattle.semantics_lines.specs.Faults.{too_deep}
 use Rattle.semantics.specs.Registry.{has_some}
 use Rattle.semantics.specs.Reading.{from_events, is_nothing}
 use Rattle.semantics.specs.Causes.{is_nothing_event}
@@ -14,7 +14,7 @@ use Rattle.laws_reading.specs.Values.{Terms}
 use Rattle.laws_machine.specs.Frames.{ItemsPart, TuplePart, StructPart, ResultPart, option, items, object, outcome_key, Frames, path}
 use Rattle.laws_machine.specs.Delivery.{going, here, deliver, handed}
 use Rattle.laws_machine.specs.Begins.{begin, begin_scalar, begin_option, begin_result, begin_items, begin_tuple, begin_object, begin_struct, begin_as}
-use Rattle.shape_core.specs.declared.shape.ShapeId.{ShapeId}
+use Rattle.shape_types.specs.declared.shape.ShapeId.{ShapeId}
 use Rattle.read_steps.specs.Fits.{begins_sequence, begins_struct, tuple_form, if_empty, begun_of}
 use Rattle.read_steps.specs.Leaving.{inner_in}
 use Rattle.read_steps.specs.Refusals.{fault_in}

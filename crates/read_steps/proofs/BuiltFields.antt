@@ -1,7 +1,7 @@
 -- The fields of a checked registry's structs: none is flattened, and none declares a default.
 use Rattle.std.proofs.Common.{◌≡◌, ℕ, zero, suc, List, [], ◌∷◌, slice_get, Option, Some, None, Bool, true, false, refl, sym, ap, ◌∙◌}
 use Rattle.std.specs.List.{AllByRecursion as Every}
-use Rattle.semantics.specs.Shapes.{Field, Definition, struct_shape, Registry, definition_at}
+use Rattle.semantics_lines.specs.Shapes.{Field, Definition, struct_shape, Registry, definition_at}
 use Rattle.semantics.specs.Registry.{is_unbuilt, IsRegistry}
 use Rattle.laws.proofs.Built.{BuiltField, struct_built, built}
 use Rattle.read_steps.specs.Tasks.{fields_in, denies_in, fields_at, denies_at}

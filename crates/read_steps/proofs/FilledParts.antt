@@ -5,7 +5,7 @@ use Rattle.std.proofs.lemmas.List.{map-append, get_or-append_right}
 use Rattle.std.proofs.lemmas.List.Edits.{remove-append_right}
 use Rattle.std.proofs.lemmas.List.Elements.{filter_map-append}
 use Rattle.semantics.specs.Places.{rest_at, below}
-use Rattle.shape_core.specs.Trees.{tree_of}
+use Rattle.shape_types.specs.Trees.{tree_of}
 use Rattle.event_core.specs.Metadata.{span_view}
 use Rattle.read_steps.specs.declared.filled.Filled.{Filled}
 use Rattle.laws_reading.specs.Structs.{first_span, whole_span, or_span, taken_span}

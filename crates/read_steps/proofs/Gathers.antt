@@ -2,17 +2,17 @@
 use Rattle.std.proofs.Common.{◌≡◌, ℕ, suc, ◌+◌, ◌<◌, ◌≤◌, List, [], ◌∷◌, ◌++◌, map, length, drop, get_or, Option, Some, None, Result, Ok, Err, Bool, true, false, cond, refl, sym, ◌∙◌, ap, add-one, drop-cons, arith}
 use Rattle.std.specs.List.{AllByRecursion as Every}
 use Rattle.std.proofs.lemmas.List.{drop_all, map-append}
-use Rattle.semantics.specs.Trees.{Tree, structure, Trees, no_trees, tree, trees_of}
-use Rattle.semantics.specs.Shapes.{Field, Registry, definition_at}
-use Rattle.semantics.specs.Events.{Span}
-use Rattle.semantics.specs.Faults.{Step, Fault}
+use Rattle.semantics_lines.specs.Trees.{Tree, structure, Trees, no_trees, tree, trees_of}
+use Rattle.semantics_lines.specs.Shapes.{Field, Registry, definition_at}
+use Rattle.semantics_lines.specs.Events.{Span}
+use Rattle.semantics_lines.specs.Faults.{Step, Fault}
 use Rattle.semantics.specs.Places.{At, below, has_whole}
 use Rattle.semantics.specs.Registry.{IsRegistry}
 use Rattle.semantics.specs.Reading.{or_value, absent, in_parts}
-use Rattle.shape_core.specs.Shapes.{field_of}
-use Rattle.shape_core.specs.Trees.{tree_of}
-use Rattle.shape_core.specs.declared.field.Field.{Field as DeclaredField}
-use Rattle.shape_core.specs.declared.value.Value.{Value}
+use Rattle.shape_types.specs.Shapes.{field_of}
+use Rattle.shape_types.specs.Trees.{tree_of}
+use Rattle.shape_types.specs.declared.field.Field.{Field as DeclaredField}
+use Rattle.shape_types.specs.declared.value.Value.{Value}
 use Rattle.laws_reading.specs.Input.{◌>>=◌}
 use Rattle.laws_reading.specs.Structs.{Told, Got, Spot, gather_own, gather_field, Gathers, inner_spot, with_tree, gather_fields, gather_flat, as_structure, gathered}
 use Rattle.laws_reading.specs.Structs as structs

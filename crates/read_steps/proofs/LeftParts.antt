@@ -1,8 +1,8 @@
 -- Events that are left, and why.
 use Rattle.std.proofs.Common.{◌≡◌, ℕ, zero, suc, ◌+◌, ◌∷◌, length, slice_get, Option, Some, None, Err, Bool, true, false, refl, sym, ap, ◌∙◌}
-use Rattle.semantics.specs.Shapes.{Field, Definition, scalar_shape, option_shape, result_shape, list_shape, array_shape, set_shape, map_shape, struct_shape, enum_shape, transparent_shape, definition_at}
-use Rattle.semantics.specs.Events.{Span, Event}
-use Rattle.semantics.specs.Faults.{too_deep}
+use Rattle.semantics_lines.specs.Shapes.{Field, Definition, scalar_shape, option_shape, result_shape, list_shape, array_shape, set_shape, map_shape, struct_shape, enum_shape, transparent_shape, definition_at}
+use Rattle.semantics_lines.specs.Events.{Span, Event}
+use Rattle.semantics_lines.specs.Faults.{too_deep}
 use Rattle.semantics.specs.Reading.{Source, from_events}
 use Rattle.semantics.specs.Causes.{is_nothing_event, ends_sequence, has_room}
 use Rattle.laws_reading.specs.Values.{Terms}

@@ -1,6 +1,6 @@
 -- Arrays of another length.
 use Rattle.std.proofs.Common.{◌≡◌, ℕ, Option, Some, None, Err, refl}
-use Rattle.semantics.specs.Events.{Span}
+use Rattle.semantics_lines.specs.Events.{Span}
 use Rattle.laws_reading.specs.Sequences.{Items, other_length}
 use Rattle.laws_reading.specs.Values.{Terms}
 use Rattle.laws_machine.specs.Frames.{Frames, path}

@@ -1,9 +1,9 @@
 -- The entries of structs, as the code steps through them.
 use Rattle.std.proofs.Common.{◌≡◌, ℕ, List, [], ◌∷◌, slice_get, Option, Some, None, Bool, true, false, cond, not, ◌||◌, option_map, is_some, refl, sym, ap, ◌∙◌, arith}
-use Rattle.semantics.specs.Texts.{Phrase}
-use Rattle.semantics.specs.Shapes.{Field}
-use Rattle.semantics.specs.Events.{Span, Metadata, Note, Key, named, nameless, ordered, scalar, key, tag, of_struct, of_sequence, Event, leaf, start, stop, span_of}
-use Rattle.semantics.specs.Faults.{duplicate_field}
+use Rattle.semantics_lines.specs.Texts.{Phrase}
+use Rattle.semantics_lines.specs.Shapes.{Field}
+use Rattle.semantics_lines.specs.Events.{Span, Metadata, Note, Key, named, nameless, ordered, scalar, key, tag, of_struct, of_sequence, Event, leaf, start, stop, span_of}
+use Rattle.semantics_lines.specs.Faults.{duplicate_field}
 use Rattle.semantics.specs.Keys.{leads}
 use Rattle.semantics.specs.Registry.{IsRegistry}
 use Rattle.semantics.specs.Reading.{source_of}

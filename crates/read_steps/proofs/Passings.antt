@@ -1,7 +1,7 @@
 -- What passing over an event is, in the words of the machine.
 use Rattle.std.proofs.Common.{◌≡◌, List, [], ◌∷◌, Option, Some, None, Bool, true, false, Ok, Err, refl, sym, ◌∙◌, ap}
-use Rattle.semantics.specs.Events.{scalar, key, tag, Event, leaf, start, stop, span_of}
-use Rattle.semantics.specs.Faults.{Step, unexpected_token}
+use Rattle.semantics_lines.specs.Events.{scalar, key, tag, Event, leaf, start, stop, span_of}
+use Rattle.semantics_lines.specs.Faults.{Step, unexpected_token}
 use Rattle.laws_reading.specs.Input.{Input, ◌>>=◌}
 use Rattle.laws_reading.specs.Skips.{Opened, same_bracket, stopped, skip_of}
 use Rattle.laws_reading.specs.Values.{Terms}

@@ -1,7 +1,7 @@
 -- The step to a field.
 use Rattle.std.proofs.Common.{◌≡◌, ℕ, zero, suc, List, [], ◌∷◌, ◌++◌, length, slice_get, Option, Some, None, false, refl, ap}
-use Rattle.semantics.specs.Shapes.{Field, Registry}
-use Rattle.semantics.specs.Faults.{Step, field_step}
+use Rattle.semantics_lines.specs.Shapes.{Field, Registry}
+use Rattle.semantics_lines.specs.Faults.{Step, field_step}
 use Rattle.semantics.specs.Ends.{flat_steps, steps_found, steps_at}
 use Rattle.read_steps.specs.Refusals.{with_field_step}
 

@@ -1,8 +1,8 @@
 -- Where a key of a struct without flattened fields leads: to the first field that is read under it.
 use Rattle.std.proofs.Common.{◌≡◌, ℕ, zero, suc, ◌+◌, List, [], ◌∷◌, ◌++◌, map, slice_get, length, Option, Some, None, Bool, true, false, cond, not, ◌&&◌, ◌||◌, bytes_eq, option_map, is_some, refl, sym, ap, ap₂, ◌∙◌, arith}
 use Rattle.std.specs.List.{position_from}
-use Rattle.semantics.specs.Shapes.{Field, effective_name, Registry, definition_at}
-use Rattle.semantics.specs.Events.{Span}
+use Rattle.semantics_lines.specs.Shapes.{Field, effective_name, Registry, definition_at}
+use Rattle.semantics_lines.specs.Events.{Span}
 use Rattle.semantics.specs.Places.{Path, At, below, under, is_end, has_whole, Choice}
 use Rattle.semantics.specs.Keys.{Layout, Declared, own_keys, alias_key, keys_by, flat_keys, keys, path_of, or_path, stray_by, flat_stray}
 use Rattle.semantics.specs.Ends.{one_shape, leaf_at}

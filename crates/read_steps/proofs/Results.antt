@@ -1,8 +1,8 @@
 -- Results: their keys, and their ends.
 use Rattle.std.proofs.Common.{◌≡◌, Bool, Option, Some, None, true, false, refl, option_map}
-use Rattle.semantics.specs.Texts.{Phrase}
-use Rattle.semantics.specs.Trees.{Tree}
-use Rattle.semantics.specs.Events.{Metadata, Note, of_struct, of_sequence, Event, leaf, start, stop, span_of}
+use Rattle.semantics_lines.specs.Texts.{Phrase}
+use Rattle.semantics_lines.specs.Trees.{Tree}
+use Rattle.semantics_lines.specs.Events.{Metadata, Note, of_struct, of_sequence, Event, leaf, start, stop, span_of}
 use Rattle.laws_reading.specs.Options.{outcome}
 use Rattle.laws_reading.specs.Values.{Terms}
 use Rattle.laws_machine.specs.Frames.{Frames, path}
@@ -10,7 +10,7 @@ use Rattle.laws_machine.specs.Delivery.{deliver}
 use Rattle.laws_machine.specs.Steps.{close_step}
 use Rattle.read_steps.specs.Stepping.{when}
 use Rattle.semantics.specs.Reading.{by_outcome}
-use Rattle.shape_core.specs.Texts.{phrase_of}
+use Rattle.shape_types.specs.Texts.{phrase_of}
 use Rattle.event_core.specs.Keys.{key_of, full_key, key_name}
 use Rattle.event_core.specs.Metadata.{metadata_of}
 use Rattle.event_core.specs.declared.key.FieldKey.{FieldKey}

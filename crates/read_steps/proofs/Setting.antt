@@ -1,10 +1,10 @@
 -- Scalars that are set.
 use Rattle.std.proofs.Common.{◌≡◌, ◌⊎◌, inl, inr, List, Option, Some, None, Ok, Err, sym, ◌∙◌, ap}
-use Rattle.semantics.specs.Events.{Scalar}
-use Rattle.semantics.specs.Faults.{Step, Fault, out_of_memory}
+use Rattle.semantics_lines.specs.Events.{Scalar}
+use Rattle.semantics_lines.specs.Faults.{Step, Fault, out_of_memory}
 use Rattle.semantics.specs.Setters.{Outcome, set_scalar}
-use Rattle.shape_core.specs.Trees.{tree_of}
-use Rattle.shape_core.specs.declared.value.Value.{Value}
+use Rattle.shape_types.specs.Trees.{tree_of}
+use Rattle.shape_types.specs.declared.value.Value.{Value}
 use Rattle.event_core.specs.Faults.{fault_kind_of}
 use Rattle.event_core.specs.declared.error.DeserializeErrorKind.{DeserializeErrorKind}
 use Rattle.laws_reading.specs.Input.{Input, fault_at}

@@ -1,8 +1,8 @@
 -- Where events stand.
 use Rattle.std.proofs.Common.{◌≡◌, Option, Some, None, option_map, refl}
-use Rattle.semantics.specs.Texts.{Phrase}
-use Rattle.semantics.specs.Events.{Metadata, Note, key_note, span_of}
-use Rattle.shape_core.specs.Texts.{phrase_of}
+use Rattle.semantics_lines.specs.Texts.{Phrase}
+use Rattle.semantics_lines.specs.Events.{Metadata, Note, key_note, span_of}
+use Rattle.shape_types.specs.Texts.{phrase_of}
 use Rattle.event_core.specs.Events.{event_from, event_of}
 use Rattle.event_core.specs.Keys.{key_of, full_key}
 use Rattle.event_core.specs.Metadata.{metadata_of, note_view, span_view}

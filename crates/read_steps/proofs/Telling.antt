@@ -1,6 +1,6 @@
 -- Answers that are what should be read.
 use Rattle.std.proofs.Common.{◌≡◌, Option, Some, None, Result, Ok, Err, sym, ap, ◌∙◌}
-use Rattle.semantics.specs.Faults.{Fault}
+use Rattle.semantics_lines.specs.Faults.{Fault}
 use Rattle.read_steps.specs.Stops.{IsFault, Fails, Gives}
 
 -- the same fault, where what should be read is the same

@@ -1,10 +1,10 @@
 -- Tuples, as the code steps through them and fills them.
 use Rattle.std.proofs.Common.{◌≡◌, ℕ, zero, suc, ◌<◌, List, [], ◌∷◌, ◌++◌, length, drop, slice_get, map, Option, Some, None, Ok, refl, sym, ap, ◌∙◌, arith}
 use Rattle.std.proofs.lemmas.List.{map-append, length-map}
-use Rattle.semantics.specs.Trees.{Tree}
-use Rattle.semantics.specs.Shapes.{Field, Registry, definition_at}
-use Rattle.semantics.specs.Events.{Span, scalar, key, tag, of_struct, of_sequence, Event, leaf, start, stop, span_of}
-use Rattle.semantics.specs.Faults.{Step, Fault}
+use Rattle.semantics_lines.specs.Trees.{Tree}
+use Rattle.semantics_lines.specs.Shapes.{Field, Registry, definition_at}
+use Rattle.semantics_lines.specs.Events.{Span, scalar, key, tag, of_struct, of_sequence, Event, leaf, start, stop, span_of}
+use Rattle.semantics_lines.specs.Faults.{Step, Fault}
 use Rattle.semantics.specs.Registry.{IsRegistry}
 use Rattle.semantics.specs.Reading.{or_value, absent, fill}
 use Rattle.laws_reading.specs.Input.{◌>>=◌}
@@ -14,8 +14,8 @@ use Rattle.laws_reading.specs.Values.{Terms}
 use Rattle.laws_machine.specs.Frames.{TuplePart, Frames}
 use Rattle.laws_machine.specs.Delivery.{here}
 use Rattle.laws_machine.specs.Steps.{keyed_step}
-use Rattle.shape_core.specs.Trees.{tree_of}
-use Rattle.shape_core.specs.declared.value.Value.{Value}
+use Rattle.shape_types.specs.Trees.{tree_of}
+use Rattle.shape_types.specs.declared.value.Value.{Value}
 use Rattle.read_steps.specs.Fits.{goes_on_by}
 use Rattle.read_steps.specs.Filling.{or_missing, absent_value, filled_at}
 use Rattle.read_steps.specs.Stepping.{keyed_by}

@@ -1,8 +1,8 @@
 -- What was read of a struct, as the definitions see it.
 use Rattle.std.specs.Prelude.{ℕ, ◌==◌, List, [], ◌∷◌, Bool, Option, Some, None}
-use Rattle.semantics.specs.Trees.{Tree}
+use Rattle.semantics_lines.specs.Trees.{Tree}
 use Rattle.semantics.specs.Places.{At}
-use Rattle.shape_core.specs.Trees.{tree_of}
+use Rattle.shape_types.specs.Trees.{tree_of}
 use Rattle.laws_reading.specs.Structs.{Told}
 use Rattle.read_steps.specs.declared.filled.Filled.{Filled}
 use Rattle.read_steps.specs.declared.filled.Taken.{Taken as DeclaredTaken}

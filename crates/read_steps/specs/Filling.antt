@@ -1,9 +1,9 @@
 -- What fills a struct or a tuple whose parts are absent, as the code fills it.
 use Rattle.std.specs.Prelude.{ℕ, ◌+◌, List, [], ◌∷◌, ◌++◌, length, drop, Option, Some, None, Result, Ok}
-use Rattle.semantics.specs.Trees.{Tree}
-use Rattle.semantics.specs.Shapes.{Field, Registry, definition_at}
-use Rattle.semantics.specs.Events.{Span}
-use Rattle.semantics.specs.Faults.{Step, missing_field, Fault}
+use Rattle.semantics_lines.specs.Trees.{Tree}
+use Rattle.semantics_lines.specs.Shapes.{Field, Registry, definition_at}
+use Rattle.semantics_lines.specs.Events.{Span}
+use Rattle.semantics_lines.specs.Faults.{Step, missing_field, Fault}
 use Rattle.semantics.specs.Places.{At, below}
 use Rattle.semantics.specs.Reading.{absent}
 use Rattle.laws_reading.specs.Input.{◌>>=◌, refused, never}

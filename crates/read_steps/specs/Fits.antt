@@ -1,9 +1,9 @@
 -- What an event is to those who look for another one.
 use Rattle.std.specs.Prelude.{Option, Some, None, Result, Ok, Err, Bool, true, false, ◌&&◌, cond, bytes_eq, codes}
-use Rattle.semantics.specs.Texts.{Phrase}
-use Rattle.semantics.specs.Events.{Scalar, named, nameless, scalar, key, of_struct, of_sequence, object_kind, Event, leaf, start, stop}
+use Rattle.semantics_lines.specs.Texts.{Phrase}
+use Rattle.semantics_lines.specs.Events.{Scalar, named, nameless, scalar, key, of_struct, of_sequence, object_kind, Event, leaf, start, stop}
 use Rattle.semantics.specs.Reading.{is_nothing}
-use Rattle.shape_core.specs.Texts.{phrase_of}
+use Rattle.shape_types.specs.Texts.{phrase_of}
 use Rattle.event_core.specs.Events.{scalar_of as scalar_view}
 use Rattle.read_steps.specs.declared.fits.TupleForm.{TupleForm as DeclaredForm}
 use Rattle.read_steps.specs.declared.fits.TupleForm.TheVariants as forms

@@ -1,9 +1,9 @@
 -- The keys of the fields of a struct.
 use Rattle.std.specs.Prelude.{ℕ, List, Option, Some, None, Bool, false, ◌&&◌, ◌||◌, not, bytes_eq}
 use Rattle.std.specs.List.{position_from}
-use Rattle.semantics.specs.Shapes.{Field, effective_name}
-use Rattle.shape_core.specs.Shapes.{field_of}
-use Rattle.shape_core.specs.declared.field.Field.{Field as DeclaredField}
+use Rattle.semantics_lines.specs.Shapes.{Field, effective_name}
+use Rattle.shape_types.specs.Shapes.{field_of}
+use Rattle.shape_types.specs.declared.field.Field.{Field as DeclaredField}
 
 abbrev pub is_text : List ℕ → Option (List ℕ) → Bool
 is_text t None = false

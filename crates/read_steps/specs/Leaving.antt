@@ -1,7 +1,7 @@
 -- Which events a step only looks at, as the code looks.
 use Rattle.std.specs.Prelude.{ℕ, length, slice_get, Option, Some, None, Bool, false, cond}
-use Rattle.semantics.specs.Shapes.{Definition, option_shape, transparent_shape}
-use Rattle.semantics.specs.Events.{Event}
+use Rattle.semantics_lines.specs.Shapes.{Definition, option_shape, transparent_shape}
+use Rattle.semantics_lines.specs.Events.{Event}
 use Rattle.semantics.specs.Causes.{is_nothing_event, ends_sequence, has_room}
 use Rattle.laws_reading.specs.Values.{Terms}
 use Rattle.laws_machine.specs.Frames.{ItemsPart, TuplePart}

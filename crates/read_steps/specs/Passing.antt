@@ -1,6 +1,6 @@
 -- Passing over one event of a value.
 use Rattle.std.specs.Prelude.{◌≡◌, List, [], ◌∷◌, map, Option, Some, None, Result, Ok, Err, Bool, true, false}
-use Rattle.semantics.specs.Events.{scalar, key, tag, Bracket, of_struct, of_sequence, Event, leaf, start, stop}
+use Rattle.semantics_lines.specs.Events.{scalar, key, tag, Bracket, of_struct, of_sequence, Event, leaf, start, stop}
 use Rattle.laws_reading.specs.Input.{Reads, unexpected}
 use Rattle.laws_reading.specs.Skips.{Opened, goes_on, same_bracket}
 use Rattle.read_steps.specs.declared.opened.NotPassed.{NotPassed}

@@ -1,8 +1,8 @@
 -- Faults of what is read.
 use Rattle.std.specs.Prelude.{ℕ, List, [], ◌∷◌, ◌++◌, Option, Some, None}
-use Rattle.semantics.specs.Shapes.{Field}
-use Rattle.semantics.specs.Events.{Span}
-use Rattle.semantics.specs.Faults.{Step, field_step, FaultKind, bug, array_length, reflect, Fault}
+use Rattle.semantics_lines.specs.Shapes.{Field}
+use Rattle.semantics_lines.specs.Events.{Span}
+use Rattle.semantics_lines.specs.Faults.{Step, field_step, FaultKind, bug, array_length, reflect, Fault}
 use Rattle.laws_reading.specs.Values.{Terms}
 use Rattle.laws_machine.specs.Frames.{Frames, path}
 

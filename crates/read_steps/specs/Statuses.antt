@@ -1,5 +1,5 @@
 -- What there is behind an event, as the definitions see it.
-use Rattle.shape_core.specs.Trees.{tree_of}
+use Rattle.shape_types.specs.Trees.{tree_of}
 use Rattle.laws_machine.specs.Frames.{Frames}
 use Rattle.laws_machine.specs.Delivery as machine
 use Rattle.read_steps.specs.declared.steps.Status.{Status}

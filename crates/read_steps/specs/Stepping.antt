@@ -1,10 +1,10 @@
 -- The steps of the machine by what an event is, as the code takes them.
 use Rattle.std.specs.Prelude.{◌≡◌, ℕ, List, [], ◌∷◌, length, slice_get, Option, Some, None, Result, Ok, Err, Bool, true, false, cond, codes, bytes_eq}
-use Rattle.semantics.specs.Texts.{Phrase}
-use Rattle.semantics.specs.Trees.{Tree, structure, trees_of}
-use Rattle.semantics.specs.Shapes.{Field}
-use Rattle.semantics.specs.Events.{Span}
-use Rattle.semantics.specs.Faults.{Step, duplicate_field, Fault}
+use Rattle.semantics_lines.specs.Texts.{Phrase}
+use Rattle.semantics_lines.specs.Trees.{Tree, structure, trees_of}
+use Rattle.semantics_lines.specs.Shapes.{Field}
+use Rattle.semantics_lines.specs.Events.{Span}
+use Rattle.semantics_lines.specs.Faults.{Step, duplicate_field, Fault}
 use Rattle.semantics.specs.Typed.{has_length}
 use Rattle.semantics.specs.Reading.{from_events}
 use Rattle.laws_reading.specs.Input.{◌>>=◌, refused, unexpected, never}

@@ -1,6 +1,6 @@
 -- Why reading stops, and the fault that the definitions tell.
 use Rattle.std.specs.Prelude.{◌≡◌, ◌≢◌, Option, Some, None, Result, Ok, Err}
-use Rattle.semantics.specs.Faults.{Fault}
+use Rattle.semantics_lines.specs.Faults.{Fault}
 use Rattle.event_core.specs.Faults.{fault_of}
 use Rattle.read_steps.specs.declared.stop.ReadStop.{ReadStop}
 use Rattle.read_steps.specs.declared.stop.ReadStop.TheVariants as stop

@@ -1,16 +1,16 @@
 -- What is open, as the definitions see it. Of a struct the frames keep the number of its shape: its fields are those of the registry.
 use Rattle.std.specs.Prelude.{ℕ, false, List, [], ◌∷◌, map, reverse, option_map}
 use Rattle.semantics.specs.Places.{At}
-use Rattle.shape_core.specs.Scalars.{scalar_type_of}
-use Rattle.shape_core.specs.Texts.{phrase_of}
-use Rattle.shape_core.specs.Trees.{tree_of}
+use Rattle.shape_types.specs.Scalars.{scalar_type_of}
+use Rattle.shape_types.specs.Texts.{phrase_of}
+use Rattle.shape_types.specs.Trees.{tree_of}
 use Rattle.event_core.specs.Metadata.{span_view}
 use Rattle.laws_reading.specs.Structs.{Told, Got, nothing_got}
 use Rattle.laws_reading.specs.Values.{Terms, target_of}
 use Rattle.laws_machine.specs.Frames as machine
 use Rattle.laws_machine.specs.Frames.{awaits, option, items, elements, keyed, keyed_item, object, field, outcome_key, outcome_side, outcome_end, node, argument, passing}
 use Rattle.laws_machine.specs.Delivery as delivery
-use Rattle.shape_core.specs.declared.shape.ShapeId.{ShapeId}
+use Rattle.shape_types.specs.declared.shape.ShapeId.{ShapeId}
 use Rattle.read_steps.specs.declared.task.ItemsOf.{ItemsOf}
 use Rattle.read_steps.specs.declared.key.Named.{Named}
 use Rattle.read_steps.specs.declared.filled.Filled.{Filled}

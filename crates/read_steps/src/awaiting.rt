@@ -1,9 +1,9 @@
 //! Values that have to come, before their first event.
 ghost use Rattle.std.specs.Prelude.{◌≡◌, ◌<◌, [], true, false, None, IfErr, option_map};
-ghost use Rattle.semantics.specs.Events.{Span as MachineSpan};
+ghost use Rattle.semantics_lines.specs.Events.{Span as MachineSpan};
 ghost use Rattle.semantics.specs.Reading.{from_events};
-ghost use Rattle.semantics.specs.Shapes.{definition_at};
-ghost use Rattle.shape_core.specs.Shapes.{registry};
+ghost use Rattle.semantics_lines.specs.Shapes.{definition_at};
+ghost use Rattle.shape_types.specs.Shapes.{registry};
 ghost use Rattle.event_core.specs.Metadata.{span_view};
 ghost use Rattle.laws_machine.specs.Begins.{await};
 ghost use Rattle.laws_machine.specs.Delivery.{going};

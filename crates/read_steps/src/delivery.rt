@@ -1,6 +1,6 @@
 //! A whole value goes into what is open.
 ghost use Rattle.std.specs.Prelude.{◌≡◌, ◌<◌, ◌∷◌, length, true, false, OnOk, IfOk, IfErr, None};
-ghost use Rattle.shape_core.specs.Trees.{tree_of};
+ghost use Rattle.shape_types.specs.Trees.{tree_of};
 ghost use Rattle.laws_machine.specs.Delivery.{deliver};
 ghost use Rattle.laws_machine.specs.Frames.{option, items, elements, keyed_item, field, outcome_side};
 ghost use Rattle.read_steps.specs.Stops.{told_stop, Gives, IsOwn};

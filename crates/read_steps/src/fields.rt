@@ -1,7 +1,7 @@
 //! The fields of a struct, by the number of its shape.
 ghost use Rattle.std.specs.Prelude.{◌≡◌, [], length, map, slice_get, MatchOption};
 ghost use Rattle.std.specs.Option.{option_map, option_copied};
-ghost use Rattle.shape_core.specs.Shapes.{field_of, registry};
+ghost use Rattle.shape_types.specs.Shapes.{field_of, registry};
 ghost use Rattle.read_steps.specs.Keys.{place_in};
 ghost use Rattle.read_steps.specs.Tasks.{fields_at};
 

@@ -1,11 +1,11 @@
 //! Structs and tuples of what was read, where an option that is absent holds nothing.
 ghost use Rattle.std.specs.Prelude.{◌≡◌, ◌<◌, ◌-◌, [], length, map, false, true, Ok, IfOk, IfErr};
 ghost use Rattle.std.specs.Option.{option_map};
-ghost use Rattle.semantics.specs.Shapes.{definition_at};
+ghost use Rattle.semantics_lines.specs.Shapes.{definition_at};
 ghost use Rattle.semantics.specs.Reading.{absent};
-ghost use Rattle.semantics.specs.Trees.{structure, trees_of};
-ghost use Rattle.shape_core.specs.Shapes.{field_of, registry};
-ghost use Rattle.shape_core.specs.Trees.{tree_of};
+ghost use Rattle.semantics_lines.specs.Trees.{structure, trees_of};
+ghost use Rattle.shape_types.specs.Shapes.{field_of, registry};
+ghost use Rattle.shape_types.specs.Trees.{tree_of};
 ghost use Rattle.event_core.specs.Metadata.{span_view};
 ghost use Rattle.laws_machine.specs.Delivery.{here};
 ghost use Rattle.laws_machine.specs.Frames.{path};

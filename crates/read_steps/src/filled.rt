@@ -5,7 +5,7 @@ ghost use Rattle.std.specs.Option.{option_map};
 ghost use Rattle.event_core.specs.Metadata.{span_view};
 ghost use Rattle.semantics.specs.Places.{below};
 ghost use Rattle.laws_reading.specs.Structs.{taken_span};
-ghost use Rattle.shape_core.specs.Trees.{tree_of};
+ghost use Rattle.shape_types.specs.Trees.{tree_of};
 ghost use Rattle.read_steps.specs.Filled.{stands_at, taken_of, taken_view, or_twice};
 ghost use Rattle.read_steps.specs.Views.{told_of};
 

@@ -1,8 +1,8 @@
 //! The items of lists and arrays.
 ghost use Rattle.std.specs.Prelude.{◌≡◌, map, IfErr};
 ghost use Rattle.semantics.specs.Causes.{ends_sequence};
-ghost use Rattle.semantics.specs.Trees.{list, trees_of};
-ghost use Rattle.shape_core.specs.Trees.{tree_of};
+ghost use Rattle.semantics_lines.specs.Trees.{list, trees_of};
+ghost use Rattle.shape_types.specs.Trees.{tree_of};
 ghost use Rattle.event_core.specs.Events.{event_of};
 ghost use Rattle.event_core.specs.Metadata.{span_view};
 ghost use Rattle.laws_machine.specs.Steps.{item_step};

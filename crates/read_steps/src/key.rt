@@ -3,7 +3,7 @@ ghost use Rattle.std.specs.Prelude.{◌≡◌};
 ghost use Rattle.std.specs.List.{position_from};
 ghost use Rattle.std.specs.Option.{option_map};
 ghost use Rattle.event_core.specs.Keys.{key_name};
-ghost use Rattle.shape_core.specs.Texts.{phrase_of};
+ghost use Rattle.shape_types.specs.Texts.{phrase_of};
 ghost use Rattle.read_steps.specs.Keys.{calls, is_text};
 
 use event_core::{FieldKey, Span};

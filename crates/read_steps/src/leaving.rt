@@ -1,8 +1,8 @@
 //! Which events a step only looks at, and refuses.
 ghost use Rattle.std.specs.Prelude.{◌≡◌, ◌<◌, true, false, None, option_map};
-ghost use Rattle.semantics.specs.Shapes.{definition_at};
+ghost use Rattle.semantics_lines.specs.Shapes.{definition_at};
 ghost use Rattle.event_core.specs.Events.{event_of};
-ghost use Rattle.shape_core.specs.Shapes.{registry};
+ghost use Rattle.shape_types.specs.Shapes.{registry};
 ghost use Rattle.laws_machine.specs.Leaves.{leaves, begin_leaves};
 ghost use Rattle.read_steps.specs.Leaving.{inner_in, leaves_inner, items_leave, tuple_leaves};
 ghost use Rattle.read_steps.specs.Tasks.{terms_of};

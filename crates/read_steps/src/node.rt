@@ -1,6 +1,6 @@
 //! Nodes that stand for scalars.
 ghost use Rattle.std.specs.Prelude.{◌≡◌, ◌∷◌, [], true, Some, Ok, codes, option_map, IfErr};
-ghost use Rattle.semantics.specs.Faults.{duplicate_field};
+ghost use Rattle.semantics_lines.specs.Faults.{duplicate_field};
 ghost use Rattle.event_core.specs.Events.{event_of, scalar_of};
 ghost use Rattle.event_core.specs.Metadata.{span_view};
 ghost use Rattle.laws_reading.specs.Values.{Terms};
@@ -13,8 +13,8 @@ ghost use Rattle.read_steps.specs.Fits.{is_scalar, as_scalar};
 ghost use Rattle.read_steps.specs.Stops.{told_stop, Gives, IsFault, IsOwn};
 ghost use Rattle.read_steps.specs.Tasks.{terms_of};
 ghost use Rattle.read_steps.specs.Views.{open_of, moved_of, node_of};
-ghost use Rattle.shape_core.specs.Texts.{text_bytes};
-ghost use Rattle.shape_core.specs.Trees.{tree_of};
+ghost use Rattle.shape_types.specs.Texts.{text_bytes};
+ghost use Rattle.shape_types.specs.Trees.{tree_of};
 
 use crate::delivery::deliver;
 use crate::expected::{Expected, Unfit};

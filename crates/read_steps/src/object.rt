@@ -1,8 +1,8 @@
 //! The entries of structs.
 ghost use Rattle.std.specs.Prelude.{◌≡◌, ◌∷◌, [], Some, Ok, slice_get, IfErr};
-ghost use Rattle.semantics.specs.Faults.{duplicate_field};
-ghost use Rattle.shape_core.specs.Shapes.{field_of, registry};
-ghost use Rattle.shape_core.specs.Texts.{text_bytes, phrase_of};
+ghost use Rattle.semantics_lines.specs.Faults.{duplicate_field};
+ghost use Rattle.shape_types.specs.Shapes.{field_of, registry};
+ghost use Rattle.shape_types.specs.Texts.{text_bytes, phrase_of};
 ghost use Rattle.event_core.specs.Events.{event_of};
 ghost use Rattle.event_core.specs.Metadata.{span_view};
 ghost use Rattle.laws_machine.specs.Delivery.{going};

@@ -1,9 +1,9 @@
 //! Results: the key, what it holds, and the end.
 ghost use Rattle.std.specs.Prelude.{◌≡◌, Some, IfOk, IfErr};
-ghost use Rattle.semantics.specs.Events.{span_of};
-ghost use Rattle.semantics.specs.Faults.{unexpected_token};
-ghost use Rattle.shape_core.specs.Texts.{phrase_of};
-ghost use Rattle.shape_core.specs.Trees.{tree_of};
+ghost use Rattle.semantics_lines.specs.Events.{span_of};
+ghost use Rattle.semantics_lines.specs.Faults.{unexpected_token};
+ghost use Rattle.shape_types.specs.Texts.{phrase_of};
+ghost use Rattle.shape_types.specs.Trees.{tree_of};
 ghost use Rattle.event_core.specs.Events.{event_of};
 ghost use Rattle.event_core.specs.Keys.{key_name};
 ghost use Rattle.event_core.specs.Metadata.{span_view};

@@ -1,9 +1,9 @@
 //! The way to what is read.
 ghost use Rattle.std.specs.Prelude.{◌≡◌, ◌∷◌, [], ◌++◌, slice_get, IfOk, OnOk};
-ghost use Rattle.semantics.specs.Faults.{index_step, variant_step};
+ghost use Rattle.semantics_lines.specs.Faults.{index_step, variant_step};
 ghost use Rattle.event_core.specs.Faults.{path_of};
 ghost use Rattle.laws_machine.specs.Frames.{path, path_in};
-ghost use Rattle.shape_core.specs.Shapes.{registry};
+ghost use Rattle.shape_types.specs.Shapes.{registry};
 ghost use Rattle.read_steps.specs.Refusals.{with_field_step};
 ghost use Rattle.read_steps.specs.Tasks.{terms_of, fields_at};
 ghost use Rattle.read_steps.specs.Views.{frame_of, open_of};

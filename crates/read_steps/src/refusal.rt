@@ -1,7 +1,7 @@
 //! Why a value is refused, as a fault of what is read.
 ghost use Rattle.std.specs.Prelude.{◌≡◌, [], Some, IfOk, Err};
-ghost use Rattle.semantics.specs.Events.{no_span};
-ghost use Rattle.semantics.specs.Faults.{unexpected_token, bug, too_deep, array_length, too_many_elements, reflect};
+ghost use Rattle.semantics_lines.specs.Events.{no_span};
+ghost use Rattle.semantics_lines.specs.Faults.{unexpected_token, bug, too_deep, array_length, too_many_elements, reflect};
 ghost use Rattle.event_core.specs.Faults.{fault_kind_of, refusal_of};
 ghost use Rattle.event_core.specs.Metadata.{span_view};
 ghost use Rattle.laws_machine.specs.Delivery.{Status, no_step};

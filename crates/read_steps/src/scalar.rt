@@ -1,8 +1,8 @@
 //! Sets scalars.
 ghost use Rattle.std.specs.Prelude.{◌≡◌, IfErr, None};
-ghost use Rattle.semantics.specs.Faults.{out_of_memory};
-ghost use Rattle.shape_core.specs.Scalars.{scalar_type_of};
-ghost use Rattle.shape_core.specs.Trees.{tree_of};
+ghost use Rattle.semantics_lines.specs.Faults.{out_of_memory};
+ghost use Rattle.shape_types.specs.Scalars.{scalar_type_of};
+ghost use Rattle.shape_types.specs.Trees.{tree_of};
 ghost use Rattle.event_core.specs.Events.{scalar_of};
 ghost use Rattle.event_core.specs.Faults.{fault_kind_of};
 ghost use Rattle.event_core.specs.Metadata.{span_view};

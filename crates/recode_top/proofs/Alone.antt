@@ -2,16 +2,16 @@
 use Rattle.std.proofs.Common.{◌≡◌, ℕ, zero, suc, Bool, true, false, cond, List, [], ◌∷◌, ◌++◌, append-nil, Option, Some, None, Ok, Err, inl, inr, refl, sym, ap, ◌∙◌, subst}
 use Rattle.std.specs.Prelude.{◌⊎◌, codes}
 use Rattle.std.specs.Option.{option_map}
-use Rattle.semantics.specs.Trees.{Tree}
-use Rattle.semantics.specs.Texts.{Phrase}
-use Rattle.semantics.specs.Events.{Metadata, Note, key, Event, leaf}
+use Rattle.semantics_lines.specs.Trees.{Tree}
+use Rattle.semantics_lines.specs.Texts.{Phrase}
+use Rattle.semantics_lines.specs.Events.{Metadata, Note, key, Event, leaf}
 use Rattle.semantics.specs.Runs.{run_events}
-use Rattle.semantics.specs.Faults.{out_of_memory, ends, stops}
+use Rattle.semantics_lines.specs.Faults.{out_of_memory, ends, stops}
 use Rattle.semantics.specs.Reading.{Setting, from_events, Reads}
 use Rattle.semantics.specs.Recoding.{HasCauseFrom, IsFaultBehind}
-use Rattle.shape_core.specs.declared.value.Value.{Value}
-use Rattle.shape_core.specs.Trees.{tree_of}
-use Rattle.shape_core.specs.Texts.{phrase_of}
+use Rattle.shape_types.specs.declared.value.Value.{Value}
+use Rattle.shape_types.specs.Trees.{tree_of}
+use Rattle.shape_types.specs.Texts.{phrase_of}
 use Rattle.event_core.specs.Building.{is_memory}
 use Rattle.event_core.specs.Events.{event_from, event_of}
 use Rattle.event_core.specs.Faults.{fault_kind_of, fault_of}

@@ -2,22 +2,24 @@
 use Rattle.std.proofs.Common.{◌≡◌, ◌≤◌, ℕ, List, [], ◌∷◌, Option, Some, None, Result, Ok, Err, map, refl, sym, ap, ◌∙◌, subst}
 use Rattle.std.specs.Prelude.{◌≢◌, bytes_eq, IfOk, IfErr}
 use Rattle.std.specs.List.{position}
-use Rattle.semantics.specs.Shapes.{Definition, Shape, Draft, Registry}
+use Rattle.semantics_lines.specs.Shapes.{Definition, Shape, Draft, Registry}
 use Rattle.semantics.specs.Registry.{drafted}
-use Rattle.semantics.specs.Documents.{Document}
-use Rattle.semantics.specs.Tapes.{document_tape}
+use Rattle.semantics_lines.specs.Documents.{Document}
+use Rattle.semantics_lines.specs.Tapes.{document_tape}
 use Rattle.semantics.specs.Recoding.{Recodes, IsReadable}
-use Rattle.semantics.specs.Divided.{joined, IsDivided}
-use Rattle.semantics.specs.ShapeText.{IsShapeText, IsShapeTextFault}
-use Rattle.laws.specs.Laws.{OneDivision, OneShapeText}
+use Rattle.semantics_lines.specs.Divided.{joined, IsDivided}
+use Rattle.semantics.specs.CheckedText.{IsShapeText, IsShapeTextFault}
+use Rattle.laws_lines.specs.Laws.{OneDivision}
+use Rattle.laws.specs.Laws.{OneShapeText}
 use Rattle.recode_top.specs.Recode.{IsTapeUnlessMemory, IsRefusedFor}
 use Rattle.recode_top.specs.Requests.{Request}
-use Rattle.shape_text.specs.ShapeErrors.{text_kind, IsReadShapesError}
+use Rattle.shape_lines.specs.ShapeErrors.{text_kind}
+use Rattle.shape_text.specs.ShapeErrors.{IsReadShapesError}
 use Rattle.recode_top.specs.Running.{IsLoaded, HasNoRoot, HasOutput, IsAnswerable, IsInputStop, IsOutputUnlessMemory, IsRefused, IsTapeStop, IsRefusal, IsShapesStop}
 use Rattle.recode_top.specs.declared.error.RecodeError.{RecodeError}
 use Rattle.recode_top.specs.declared.error.RecodeError.TheVariants as errors
-use Rattle.shape_text.specs.declared.shape_fault.ReadShapesError.{ReadShapesError}
-use Rattle.shape_text.specs.declared.shape_fault.ReadShapesError.TheVariants as reading
+use Rattle.shape_lines.specs.declared.shape_fault.ReadShapesError.{ReadShapesError}
+use Rattle.shape_lines.specs.declared.shape_fault.ReadShapesError.TheVariants as reading
 use Rattle.recode_top.specs.declared.stop.Stop.{Stop}
 use Rattle.recode_top.specs.declared.stop.Stop.TheVariants as stops
 

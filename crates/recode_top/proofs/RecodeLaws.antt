@@ -1,18 +1,19 @@
 -- What recoding answers, by what the reader and the writer answer.
 use Rattle.std.proofs.Common.{◌≡◌, ◌≤◌, ℕ, zero, suc, List, [], ◌∷◌, ◌++◌, Result, Ok, Err, inl, inr, refl, sym, ap, ◌∙◌, subst, arith}
 use Rattle.std.specs.Prelude.{IfOk, IfErr}
-use Rattle.semantics.specs.Trees.{Tree}
-use Rattle.semantics.specs.Shapes.{Registry}
-use Rattle.semantics.specs.Events.{no_span, Event}
+use Rattle.semantics_lines.specs.Trees.{Tree}
+use Rattle.semantics_lines.specs.Shapes.{Registry}
+use Rattle.semantics_lines.specs.Events.{no_span, Event}
 use Rattle.semantics.specs.Runs.{one, group, tagged, Run, run_events}
-use Rattle.semantics.specs.Faults.{ends, Coming}
-use Rattle.semantics.specs.Documents.{Document}
+use Rattle.semantics_lines.specs.Faults.{ends, Coming}
+use Rattle.semantics_lines.specs.Documents.{Document}
 use Rattle.semantics.specs.Writing.{Written, write}
 use Rattle.semantics.specs.Reading.{Setting, from_events, Reads}
-use Rattle.semantics.specs.Tapes.{document_tape, IsTape}
-use Rattle.semantics.specs.Recoding.{tape_setting, Recodes, IsReadable, to_the_end}
-use Rattle.shape_core.specs.declared.value.Value.{Value}
-use Rattle.shape_core.specs.Trees.{tree_of}
+use Rattle.semantics_lines.specs.Tapes.{document_tape, IsTape}
+use Rattle.semantics.specs.Recoding.{tape_setting, Recodes, IsReadable}
+use Rattle.semantics_lines.specs.Tapes.{to_the_end}
+use Rattle.shape_types.specs.declared.value.Value.{Value}
+use Rattle.shape_types.specs.Trees.{tree_of}
 use Rattle.event_core.specs.declared.error.SerializeError.TheVariants.{Unsupported}
 use Rattle.laws_reading.specs.Input.{Input, feed}
 use Rattle.tape_text.specs.Coming.{coming_from}

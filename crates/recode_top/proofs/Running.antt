@@ -3,7 +3,7 @@ use Rattle.std.proofs.Common.{◌≡◌, ◌≤◌, ◌<◌, ℕ, List, [], ◌+
 use Rattle.std.specs.Prelude.{◌↔◌}
 use Rattle.std.specs.Io.KnownBytes.{Appends, Consumes, IsAtEnd}
 use Rattle.std.proofs.lemmas.List.{append-nil}
-use Rattle.semantics.specs.Documents.{Document}
+use Rattle.semantics_lines.specs.Documents.{Document}
 use Rattle.recode_top.specs.Outside.Counting.{Rose}
 use Rattle.recode_top.specs.Requests.{Request, Asks, AsksNothing}
 use Rattle.recode_top.specs.Stopping.{status_of, IsReadStop}

@@ -2,12 +2,12 @@
 use Rattle.std.proofs.Common.{◌≡◌, ℕ, List, ◌++◌, [], true, false, Ok, Err, refl, sym, ◌∙◌}
 use Rattle.std.specs.Result.{MatchResult}
 use Rattle.std.proofs.lemmas.Bool.{false≢true}
-use Rattle.semantics.specs.Trees.{Tree}
-use Rattle.semantics.specs.Documents.{Document}
+use Rattle.semantics_lines.specs.Trees.{Tree}
+use Rattle.semantics_lines.specs.Documents.{Document}
 use Rattle.semantics.specs.Writing.{Unwritten, Written, write}
 use Rattle.semantics.specs.Calling.{Part, Writer, calls_of}
-use Rattle.semantics.specs.Calls.{Call}
-use Rattle.semantics.specs.Tapes.{document_tape, calls_tape}
+use Rattle.semantics_lines.specs.Calls.{Call}
+use Rattle.semantics_lines.specs.Tapes.{document_tape, calls_tape}
 use Rattle.laws.specs.Laws.{CallsWrite}
 use Rattle.event_core.specs.declared.error.SerializeError.{SerializeError}
 use Rattle.event_core.specs.declared.error.SerializeError.TheVariants.{Backend, Reflect, Unsupported, Internal, Alloc}

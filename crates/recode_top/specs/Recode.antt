@@ -1,18 +1,19 @@
 -- What recoding answers.
 use Rattle.std.specs.Prelude.{◌≡◌, ◌⊎◌, ℕ, zero, suc, List, [], codes, cond, Result, Ok, Err, IsTrue}
-use Rattle.semantics.specs.Trees.{Tree}
-use Rattle.semantics.specs.Shapes.{Registry}
-use Rattle.semantics.specs.Events.{scalar, key, named, nameless, ordered, tag, of_struct, of_sequence, Span, no_span, Event, leaf, start, stop, span_of}
-use Rattle.semantics.specs.Faults.{Fault, Ending, ends, Coming}
-use Rattle.semantics.specs.Documents.{Document}
+use Rattle.semantics_lines.specs.Trees.{Tree}
+use Rattle.semantics_lines.specs.Shapes.{Registry}
+use Rattle.semantics_lines.specs.Events.{scalar, key, named, nameless, ordered, tag, of_struct, of_sequence, Span, no_span, Event, leaf, start, stop, span_of}
+use Rattle.semantics_lines.specs.Faults.{Fault, Ending, ends, Coming}
+use Rattle.semantics_lines.specs.Documents.{Document}
 use Rattle.semantics.specs.Typed.{typed}
 use Rattle.semantics.specs.Reading.{Setting, from_events, Reads}
 use Rattle.semantics.specs.Writing.{Unwritten, Written}
-use Rattle.semantics.specs.Tapes.{document_tape, IsTape}
+use Rattle.semantics_lines.specs.Tapes.{document_tape, IsTape}
 use Rattle.semantics.specs.Causes.{IsTrailing, HasNoForm}
-use Rattle.semantics.specs.Recoding.{tape_setting, Comes, HasCauseFrom, HasCause, IsFaultBehind, IsReadFault}
-use Rattle.shape_core.specs.declared.value.Value.{Value}
-use Rattle.shape_core.specs.Trees.{tree_of}
+use Rattle.semantics.specs.Recoding.{tape_setting, HasCauseFrom, HasCause, IsFaultBehind, IsReadFault}
+use Rattle.semantics_lines.specs.Tapes.{Comes}
+use Rattle.shape_types.specs.declared.value.Value.{Value}
+use Rattle.shape_types.specs.Trees.{tree_of}
 use Rattle.event_core.specs.Building.{is_memory}
 use Rattle.event_core.specs.Faults.{fault_of}
 use Rattle.event_core.specs.Metadata.{span_view}

@@ -2,14 +2,15 @@
 use Rattle.std.specs.Prelude.{◌≡◌, ◌≢◌, ◌≤◌, ◌<◌, ℕ, List, [], length, map, take, bytes_eq, Option, Some, None, Result, Ok, Err, IfSome}
 use Rattle.std.specs.List.{position}
 use Rattle.std.specs.Io.KnownBytes.{Appends, Consumes, IsAtEnd}
-use Rattle.semantics.specs.Shapes.{Registry}
+use Rattle.semantics_lines.specs.Shapes.{Registry}
 use Rattle.semantics.specs.Registry.{drafted}
-use Rattle.semantics.specs.Documents.{Document}
+use Rattle.semantics_lines.specs.Documents.{Document}
 use Rattle.semantics.specs.Recoding.{Recodes, IsReadable}
-use Rattle.semantics.specs.Divided.{joined, IsDivided}
-use Rattle.semantics.specs.ShapeText.{IsShapeText, ShapeTextKind, IsShapeTextFault}
+use Rattle.semantics_lines.specs.Divided.{joined, IsDivided}
+use Rattle.semantics.specs.CheckedText.{IsShapeText, IsShapeTextFault}
+use Rattle.semantics_lines.specs.ShapeText.{ShapeTextKind}
 use Rattle.recode_top.specs.Outside.Counting.{Rose}
-use Rattle.shape_text.specs.ShapeErrors.{text_kind}
+use Rattle.shape_lines.specs.ShapeErrors.{text_kind}
 use Rattle.recode_top.specs.ShapeNotes.{shapes_note}
 use Rattle.recode_top.specs.Recode.{IsRefusedFor}
 use Rattle.recode_top.specs.RecodeTexts.{recode_error_text}
@@ -17,8 +18,8 @@ use Rattle.recode_top.specs.Requests.{Request, Asks, AsksNothing}
 use Rattle.recode_top.specs.Stopping.{status_of, note_of}
 use Rattle.recode_top.specs.declared.error.RecodeError.{RecodeError}
 use Rattle.recode_top.specs.declared.error.RecodeError.TheVariants as errors
-use Rattle.shape_text.specs.declared.shape_fault.ReadShapesError.{ReadShapesError}
-use Rattle.shape_text.specs.declared.shape_fault.ReadShapesError.TheVariants as reading
+use Rattle.shape_lines.specs.declared.shape_fault.ReadShapesError.{ReadShapesError}
+use Rattle.shape_lines.specs.declared.shape_fault.ReadShapesError.TheVariants as reading
 use Rattle.recode_top.specs.declared.stop.Stop.{Stop}
 use Rattle.recode_top.specs.declared.stop.Stop.TheVariants as stops
 

@@ -1,8 +1,8 @@
 -- What is said of a refused shape text.
 use Rattle.std.specs.Prelude.{ℕ, List, ◌++◌, codes}
 use Rattle.std.specs.Fmt.{decimal}
-use Rattle.semantics.specs.Registry as registry
-use Rattle.semantics.specs.ShapeText as text
+use Rattle.semantics_lines.specs.ShapeFaults as registry
+use Rattle.semantics_lines.specs.ShapeText as text
 
 -- the name of a rule of the registry
 abbrev pub rule_name : registry.ShapeFaultKind → List ℕ

@@ -1,9 +1,9 @@
 //! What is answered to an input: a shape text, the line `---` and a tape.
 ghost use Rattle.std.specs.Prelude.{◌≤◌, ◌<◌, length, IfOk, IfErr};
-ghost use Rattle.semantics.specs.Documents.{Document};
-ghost use Rattle.semantics.specs.Tapes.{document_tape};
+ghost use Rattle.semantics_lines.specs.Documents.{Document};
+ghost use Rattle.semantics_lines.specs.Tapes.{document_tape};
 ghost use Rattle.semantics.specs.Recoding.{Recodes, IsReadable};
-ghost use Rattle.shape_core.specs.Shapes.{registry};
+ghost use Rattle.shape_types.specs.Shapes.{registry};
 ghost use Rattle.recode_top.specs.Requests.{request_of};
 ghost use Rattle.recode_top.specs.Running.{HasOutput, IsAnswerable, IsInputStop, IsOutputUnlessMemory, IsTapeStop, IsRefused, IsRefusal, IsShapesStop};
 
@@ -13,7 +13,8 @@ use crate::outside::divided;
 use crate::recoding::recode;
 use crate::shape_note::shapes_note;
 use crate::stop::Stop;
-use laws::{one_division, one_shape_text};
+use laws::one_shape_text;
+use laws_lines::one_division;
 use shape_core::{Name, ShapeId, Shapes};
 use shape_text::{ReadShapesError, read_shapes};
 use std::alloc::Global;

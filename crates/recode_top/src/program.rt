@@ -1,8 +1,8 @@
 //! The program: words, an input, and an output.
 ghost use Rattle.std.specs.Prelude.{◌≡◌, ◌⊎◌, ◌↔◌, codes, OnOk, IfErr};
 ghost use Rattle.std.specs.Io.KnownBytes.{Appends};
-ghost use Rattle.semantics.specs.Documents.{Document};
-ghost use Rattle.semantics.specs.Tapes.{document_tape};
+ghost use Rattle.semantics_lines.specs.Documents.{Document};
+ghost use Rattle.semantics_lines.specs.Tapes.{document_tape};
 ghost use Rattle.recode_top.specs.Outside.Counting.{Rose};
 ghost use Rattle.recode_top.specs.Requests.{AsksNothing};
 ghost use Rattle.recode_top.specs.Running.{world, IsDone, IsRunStop, Ends, IsAsked, CompletesAs, CompletesWith};

@@ -1,8 +1,8 @@
 //! Reads the one value of a tape.
 ghost use Rattle.std.specs.Prelude.{◌≡◌, ◌<◌, true, length, IfOk, IfErr};
 ghost use Rattle.semantics.specs.Recoding.{tape_setting};
-ghost use Rattle.shape_core.specs.Shapes.{registry};
-ghost use Rattle.shape_core.specs.Trees.{tree_of};
+ghost use Rattle.shape_types.specs.Shapes.{registry};
+ghost use Rattle.shape_types.specs.Trees.{tree_of};
 ghost use Rattle.event_core.specs.Building.{is_memory};
 ghost use Rattle.event_core.specs.Events.{event_of};
 ghost use Rattle.tape_text.specs.Coming.{coming_from};

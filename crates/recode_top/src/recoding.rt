@@ -1,12 +1,12 @@
 //! Recodes a tape.
 ghost use Rattle.std.specs.Prelude.{◌<◌, ◌≤◌, ℕ, length, IfOk, IfErr};
-ghost use Rattle.semantics.specs.Trees.{Tree};
-ghost use Rattle.semantics.specs.Documents.{Document};
+ghost use Rattle.semantics_lines.specs.Trees.{Tree};
+ghost use Rattle.semantics_lines.specs.Documents.{Document};
 ghost use Rattle.semantics.specs.Writing.{write};
-ghost use Rattle.semantics.specs.Tapes.{document_tape};
+ghost use Rattle.semantics_lines.specs.Tapes.{document_tape};
 ghost use Rattle.semantics.specs.Recoding.{Recodes, IsReadable, IsValid};
-ghost use Rattle.shape_core.specs.Shapes.{registry};
-ghost use Rattle.shape_core.specs.Trees.{tree_of};
+ghost use Rattle.shape_types.specs.Shapes.{registry};
+ghost use Rattle.shape_types.specs.Trees.{tree_of};
 ghost use Rattle.recode_top.specs.Recode.{IsTapeUnlessMemory, IsRefusedFor, IsWritten, IsUnwritten};
 
 use crate::error::RecodeError;

@@ -1,6 +1,6 @@
 ghost use Rattle.std.specs.Prelude.{◌≡◌, IfOk};
-ghost use Rattle.shape_core.specs.Faults.{fault_kind_of};
-ghost use Rattle.shape_text.specs.ShapeErrors.{text_kind};
+ghost use Rattle.shape_types.specs.Faults.{fault_kind_of};
+ghost use Rattle.shape_lines.specs.ShapeErrors.{text_kind};
 ghost use Rattle.recode_top.specs.ShapeNotes.{kind_name, rule_name, shapes_note};
 
 use shape_core::{Name, OutOfMemory, ShapeFaultKind};

@@ -1,8 +1,8 @@
 //! Writes a value as a tape.
 ghost use Rattle.std.specs.Prelude.{IfOk, IfErr};
 ghost use Rattle.semantics.specs.Writing.{write};
-ghost use Rattle.shape_core.specs.Shapes.{registry};
-ghost use Rattle.shape_core.specs.Trees.{tree_of};
+ghost use Rattle.shape_types.specs.Shapes.{registry};
+ghost use Rattle.shape_types.specs.Trees.{tree_of};
 ghost use Rattle.recode_top.specs.Recode.{IsWritten, Unwrites};
 
 use event_core::SerializeError;

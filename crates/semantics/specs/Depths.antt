@@ -1,7 +1,7 @@
 -- How deep a value is.
 use Rattle.std.specs.Prelude.{ℕ, zero, suc, ◌+◌, max, length, List, ◌∷◌, Option, Some, None}
-use Rattle.semantics.specs.Trees.{Tree, some, ok, err, list, structure, Trees, no_trees, tree}
-use Rattle.semantics.specs.Shapes.{Field, Definition, transparent_shape, Registry, definition_at}
+use Rattle.semantics_lines.specs.Trees.{Tree, some, ok, err, list, structure, Trees, no_trees, tree}
+use Rattle.semantics_lines.specs.Shapes.{Field, Definition, transparent_shape, Registry, definition_at}
 use Rattle.semantics.specs.Typed.{option_at, ok_at, err_at, item_at, struct_at}
 
 -- a depth of the part that is there, and 0 where none is

@@ -1,7 +1,7 @@
 -- Where the paths of an object end: what stands there, and by which steps one comes to it.
 use Rattle.std.specs.Prelude.{ℕ, zero, suc, List, [], ◌∷◌, length, Option, Some, None, slice_get, Bool, false, cond}
-use Rattle.semantics.specs.Shapes.{Field, Definition, Registry, definition_at}
-use Rattle.semantics.specs.Faults.{Step, field_step}
+use Rattle.semantics_lines.specs.Shapes.{Field, Definition, Registry, definition_at}
+use Rattle.semantics_lines.specs.Faults.{Step, field_step}
 use Rattle.semantics.specs.Places.{Path, below, is_end, Choice}
 use Rattle.semantics.specs.Keys.{Layout}
 use Rattle.semantics.specs.Reading.{Part, of_shape, in_parts}

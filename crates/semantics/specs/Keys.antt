@@ -1,8 +1,8 @@
 -- The keys that the object of a struct may have, and where each leads.
 use Rattle.std.specs.Prelude.{ℕ, zero, suc, nat_lt, List, [], ◌∷◌, ◌++◌, map, Bool, true, false, cond, ◌&&◌, ◌||◌, not, length, Option, Some, None, option_map, bytes_eq, is_some}
 use Rattle.std.specs.List.{cons_option}
-use Rattle.semantics.specs.Shapes.{Field, effective_name, Definition, Registry, definition_at}
-use Rattle.semantics.specs.Events.{Key, named, nameless, ordered}
+use Rattle.semantics_lines.specs.Shapes.{Field, effective_name, Definition, Registry, definition_at}
+use Rattle.semantics_lines.specs.Events.{Key, named, nameless, ordered}
 use Rattle.semantics.specs.Runs.{Entry}
 use Rattle.semantics.specs.Places.{Path, At, below, under, Choice}
 

@@ -1,10 +1,10 @@
 -- What a run is read as.
 use Rattle.std.specs.Prelude.{◌≡◌, ℕ, zero, suc, List, [], ◌∷◌, Bool, true, false, cond, ◌&&◌, not, length, map, Option, Some, None, option_map, option_and_then, Ok, Err, bytes_eq, codes}
 use Rattle.std.specs.List.{list_all}
-use Rattle.semantics.specs.Texts.{Phrase}
-use Rattle.semantics.specs.Trees.{Tree, none, some, ok, err, list, structure, Trees, no_trees, tree}
-use Rattle.semantics.specs.Shapes.{ScalarType, is_tuple, Field, StructShape, Variant, Definition, scalar_shape, option_shape, result_shape, list_shape, array_shape, struct_shape, transparent_shape, Registry, definition_at}
-use Rattle.semantics.specs.Events.{Metadata, Scalar, unit, null, Key, named, nameless, ordered, of_struct, of_sequence, object_kind, array_kind, Event}
+use Rattle.semantics_lines.specs.Texts.{Phrase}
+use Rattle.semantics_lines.specs.Trees.{Tree, none, some, ok, err, list, structure, Trees, no_trees, tree}
+use Rattle.semantics_lines.specs.Shapes.{ScalarType, is_tuple, Field, StructShape, Variant, Definition, scalar_shape, option_shape, result_shape, list_shape, array_shape, struct_shape, transparent_shape, Registry, definition_at}
+use Rattle.semantics_lines.specs.Events.{Metadata, Scalar, unit, null, Key, named, nameless, ordered, of_struct, of_sequence, object_kind, array_kind, Event}
 use Rattle.semantics.specs.Runs.{Run, one, group, tagged, Entry, entries, items, run_events}
 use Rattle.semantics.specs.Registry.{has_some}
 use Rattle.semantics.specs.Typed.{has_length}

@@ -4,32 +4,9 @@ use Rattle.std.specs.List.{list_any, list_all}
 use Rattle.std.specs.Option.{option_map_or}
 use Rattle.std.specs.Fmt.{decimal}
 use Rattle.std.specs.Str.{is_utf8}
-use Rattle.semantics.specs.Shapes.{StructKind, is_tuple, is_unit, SkipRule, skip_never, Field, StructShape, Variant, EnumForm, internal, adjacent, Definition, scalar_shape, option_shape, result_shape, list_shape, array_shape, set_shape, map_shape, struct_shape, enum_shape, transparent_shape, Shape, Draft, Registry}
-use Rattle.semantics.specs.Scalars.{scalar_drafts}
-
--- The kinds of faults, in their order.
-pub data ShapeFaultKind : Type 0 where
-  undefined : ShapeFaultKind
-  repeated_shape_name : ShapeFaultKind
-  repeated_name : ShapeFaultKind
-  bad_default : ShapeFaultKind
-  bad_skip : ShapeFaultKind
-  bad_flatten : ShapeFaultKind
-  step_cycle : ShapeFaultKind
-  bad_container : ShapeFaultKind
-  bad_enum : ShapeFaultKind
-  too_many_choices : ShapeFaultKind
-  too_many : ShapeFaultKind
-  not_built : ShapeFaultKind
-
--- a shape, by its number, and the rule that it breaks
-pub record ShapeFault : Type 0 where
-  pub shape : ℕ
-  pub kind : ShapeFaultKind
-
--- how many shapes a registry holds at most, and how many fields a struct or variants an enum
-abbrev pub shape_limit : ℕ
-shape_limit = 65535
+use Rattle.semantics_lines.specs.Shapes.{StructKind, is_tuple, is_unit, SkipRule, skip_never, Field, StructShape, Variant, EnumForm, internal, adjacent, Definition, scalar_shape, option_shape, result_shape, list_shape, array_shape, set_shape, map_shape, struct_shape, enum_shape, transparent_shape, Shape, Draft, Registry}
+use Rattle.semantics_lines.specs.Scalars.{scalar_drafts}
+use Rattle.semantics_lines.specs.ShapeFaults.{ShapeFaultKind, undefined, repeated_shape_name, repeated_name, bad_flatten, step_cycle, bad_enum, too_many, not_built, ShapeFault, shape_limit}
 
 -- a test of the definition, where there is one
 abbrev pub on_definition : Option Definition → (Definition → Bool) → Bool

@@ -1,9 +1,9 @@
 -- Which values are of a shape.
 use Rattle.std.specs.Prelude.{ℕ, zero, suc, ℤ, Bool, true, false, cond, ◌&&◌, ◌==◌, List, [], ◌∷◌, length, Option, Some, None, option_and_then}
 use Rattle.std.specs.Str.{is_utf8, all_scalars}
-use Rattle.semantics.specs.Trees.{Tree, unit_value, bool_value, char_value, unsigned, signed, text, none, some, ok, err, list, mapping, structure, variant, Trees, no_trees, tree, tree_count, Pairs, no_pairs, pair}
-use Rattle.semantics.specs.Shapes.{ScalarType, unit_type, bool_type, char_type, unsigned_type, signed_type, string_type, str_type, is_tuple, Field, StructShape, Definition, scalar_shape, option_shape, result_shape, list_shape, array_shape, struct_shape, transparent_shape, Registry, definition_at}
-use Rattle.semantics.specs.Scalars.{fits_unsigned, fits_signed}
+use Rattle.semantics_lines.specs.Trees.{Tree, unit_value, bool_value, char_value, unsigned, signed, text, none, some, ok, err, list, mapping, structure, variant, Trees, no_trees, tree, tree_count, Pairs, no_pairs, pair}
+use Rattle.semantics_lines.specs.Shapes.{ScalarType, unit_type, bool_type, char_type, unsigned_type, signed_type, string_type, str_type, is_tuple, Field, StructShape, Definition, scalar_shape, option_shape, result_shape, list_shape, array_shape, struct_shape, transparent_shape, Registry, definition_at}
+use Rattle.semantics_lines.specs.Scalars.{fits_unsigned, fits_signed}
 
 -- a test of what an option holds
 abbrev pub on_some : {A : Type 0} → Option A → (A → Bool) → Bool

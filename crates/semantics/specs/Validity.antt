@@ -1,8 +1,8 @@
 -- Which shapes and values are read back as they were written.
 use Rattle.std.specs.Prelude.{◌≡◌, ℕ, zero, suc, length, Bool, true, false, List, [], ◌∷◌, Option, Some, None, Contains}
-use Rattle.semantics.specs.Texts.{Phrase}
-use Rattle.semantics.specs.Trees.{Tree, text, some, ok, err, list, structure, Trees, no_trees, tree}
-use Rattle.semantics.specs.Shapes.{unit_type, str_type, is_tuple, Field, Definition, scalar_shape, option_shape, result_shape, list_shape, array_shape, struct_shape, transparent_shape, Registry, definition_at}
+use Rattle.semantics_lines.specs.Texts.{Phrase}
+use Rattle.semantics_lines.specs.Trees.{Tree, text, some, ok, err, list, structure, Trees, no_trees, tree}
+use Rattle.semantics_lines.specs.Shapes.{unit_type, str_type, is_tuple, Field, Definition, scalar_shape, option_shape, result_shape, list_shape, array_shape, struct_shape, transparent_shape, Registry, definition_at}
 use Rattle.semantics.specs.Typed.{option_at, ok_at, err_at, item_at, struct_at, on_some, base}
 use Rattle.semantics.specs.Places.{Choice}
 use Rattle.semantics.specs.Keys.{Declared, path_of, keys}

@@ -1,10 +1,10 @@
 -- What a value is written as.
 use Rattle.std.specs.Prelude.{ℕ, ℤ, Bool, true, false, cond, List, [], ◌∷◌, Option, Some, None, Result, Ok, Err, codes}
 use Rattle.std.specs.Fmt.{decimal, signed_decimal}
-use Rattle.semantics.specs.Trees.{Tree, unit_value, bool_value, char_value, unsigned, signed, text, none, some, ok, err, list, mapping, structure, variant, Trees, no_trees, tree, tree_count}
-use Rattle.semantics.specs.Shapes.{bits128, ScalarType, unsigned_type, signed_type, is_tuple, Field, effective_name, Definition, set_shape, map_shape, enum_shape, Registry}
-use Rattle.semantics.specs.Calls.{Literal, null_literal, bool_literal, char_literal, i64_literal, u64_literal, str_literal}
-use Rattle.semantics.specs.Documents.{Mark, free, Document, plain, sequence, object, Documents, no_documents, document, Members, no_members, member}
+use Rattle.semantics_lines.specs.Trees.{Tree, unit_value, bool_value, char_value, unsigned, signed, text, none, some, ok, err, list, mapping, structure, variant, Trees, no_trees, tree, tree_count}
+use Rattle.semantics_lines.specs.Shapes.{bits128, ScalarType, unsigned_type, signed_type, is_tuple, Field, effective_name, Definition, set_shape, map_shape, enum_shape, Registry}
+use Rattle.semantics_lines.specs.Calls.{Literal, null_literal, bool_literal, char_literal, i64_literal, u64_literal, str_literal}
+use Rattle.semantics_lines.specs.Documents.{Mark, free, Document, plain, sequence, object, Documents, no_documents, document, Members, no_members, member}
 use Rattle.semantics.specs.Results.{on_ok}
 use Rattle.semantics.specs.Typed.{base, scalar_at, option_at, ok_at, err_at, item_at, length_at, struct_at, takes_unit, takes_bool, takes_char, takes_unsigned, takes_signed, takes_text, has_length}
 

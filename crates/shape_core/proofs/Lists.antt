@@ -1,9 +1,7 @@
 -- Lists under a view.
 use Rattle.std.proofs.Common.{◌≡◌, ℕ, List, [], ◌∷◌, length, take, map, Bool, ◌||◌, not, cond, nat_lt, ◌+◌, Some, None, refl, ap}
-use Rattle.std.specs.Prelude.{option_map, slice_get}
 use Rattle.std.specs.List.{list_any, position, prefix_len}
 use Rattle.std.proofs.lemmas.List as list
-use Rattle.std.proofs.lemmas.Option as option
 
 -- a test of the views is a test of what is viewed
 pub list_any_map : {X Y : Type 0} (p : Y → Bool) (view : X → Y) (xs : List X) → list_any p (map view xs) ≡ list_any (λ x. p (view x)) xs
@@ -13,10 +11,6 @@ list_any_map p view (x ∷ xs) = ap (λ b. p (view x) || b) (list_any_map p view
 -- as many views as there are things
 pub length_map : {X Y : Type 0} (view : X → Y) (xs : List X) → length (map view xs) ≡ length xs
 length_map view xs = list.length-map xs view
-
--- the view of the i-th
-pub slice_get_map : {X Y : Type 0} (view : X → Y) (xs : List X) (i : ℕ) → slice_get (map view xs) i ≡ option_map view (slice_get xs i)
-slice_get_map view xs i = option.slice_get-map view xs i
 
 -- the views of the first of them
 pub take_map : {X Y : Type 0} (view : X → Y) (n : ℕ) (xs : List X) → take n (map view xs) ≡ map view (take n xs)

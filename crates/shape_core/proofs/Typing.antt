@@ -2,14 +2,14 @@
 use Rattle.std.proofs.Common.{◌≡◌, ℕ, zero, suc, ◌+◌, ◌-◌, ◌<◌, ◌≤◌, List, [], ◌∷◌, length, drop, map, Option, Some, refl, ap, ◌∙◌, arith, nat_eq}
 use Rattle.std.specs.Option.{option_map_or}
 use Rattle.std.proofs.Math.Dec.{eqb-suc-zero, eqb-suc-suc}
-use Rattle.semantics.specs.Trees.{trees_of, tree_count}
-use Rattle.semantics.specs.Shapes.{Registry, Definition, definition_at, scalar_shape, option_shape, result_shape, list_shape, array_shape, set_shape, map_shape, struct_shape, enum_shape, transparent_shape}
+use Rattle.semantics_lines.specs.Trees.{trees_of, tree_count}
+use Rattle.semantics_lines.specs.Shapes.{Registry, Definition, definition_at, scalar_shape, option_shape, result_shape, list_shape, array_shape, set_shape, map_shape, struct_shape, enum_shape, transparent_shape}
 use Rattle.semantics.specs.Typed.{through, base_within, fields_typed}
 use Rattle.shape_core.specs.Base.{transparent_of}
-use Rattle.shape_core.specs.Shapes.{field_of}
-use Rattle.shape_core.specs.Trees.{tree_of}
-use Rattle.shape_core.specs.declared.field.Field.{Field}
-use Rattle.shape_core.specs.declared.value.Value.{Value}
+use Rattle.shape_types.specs.Shapes.{field_of}
+use Rattle.shape_types.specs.Trees.{tree_of}
+use Rattle.shape_types.specs.declared.field.Field.{Field}
+use Rattle.shape_types.specs.declared.value.Value.{Value}
 
 -- a transparent shape is passed, any other one is where it ends
 through_at : (inner : ℕ → Option Definition) (d : Definition) (o : Option ℕ) → transparent_of d ≡ o → through inner d ≡ option_map_or inner o (Some d)

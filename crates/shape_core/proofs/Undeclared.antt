@@ -4,9 +4,10 @@ use Rattle.std.proofs.lemmas.List.{length-map}
 use Rattle.std.proofs.lemmas.Option.{slice_get-map, slice_get_within}
 use Rattle.std.specs.Prelude.{slice_get}
 use Rattle.std.specs.List.{list_any}
-use Rattle.semantics.specs.Trees.{Tree}
-use Rattle.semantics.specs.Shapes.{Definition, struct_shape, transparent_shape, Shape, Draft, Registry, definition_of, definition_at}
-use Rattle.semantics.specs.Registry.{not_built, has_attribute, is_unbuilt, is_not_built, rules_of, first_broken, fault_of, drafted, IsRegistry}
+use Rattle.semantics_lines.specs.Trees.{Tree}
+use Rattle.semantics_lines.specs.Shapes.{Definition, struct_shape, transparent_shape, Shape, Draft, Registry, definition_of, definition_at}
+use Rattle.semantics_lines.specs.ShapeFaults.{not_built}
+use Rattle.semantics.specs.Registry.{has_attribute, is_unbuilt, is_not_built, rules_of, first_broken, fault_of, drafted, IsRegistry}
 use Rattle.semantics.specs.Typed.{through, base_within, base}
 use Rattle.semantics.specs.Defaults.{declared_default}
 

@@ -2,7 +2,7 @@
 use Rattle.std.proofs.Common.{◌≡◌, ℕ, suc, ◌+◌, ◌-◌, ◌<◌, ◌==◌, List, [], ◌∷◌, Bool, true, false, ◌||◌, refl, sym, ap, ◌∙◌, arith}
 use Rattle.std.proofs.lemmas.Bool.{ne_eqb}
 use Rattle.std.specs.List.{list_any}
-use Rattle.semantics.specs.Shapes.{Draft}
+use Rattle.semantics_lines.specs.Shapes.{Draft}
 use Rattle.semantics.specs.Registry.{steps_from, steps_to}
 
 or_none : (b : Bool) → b || false ≡ b

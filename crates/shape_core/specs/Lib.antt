@@ -1,8 +1,2 @@
 pub mod Base
 pub mod Builder
-pub mod Faults
-pub mod Scalars
-pub mod Shapes
-pub mod Texts
-pub mod Trees
-pub mod formers

@@ -1,22 +1,18 @@
-ghost use Rattle.std.specs.Prelude.{◌≡◌, ◌<◌, ◌≤◌, [], ◌∷◌, ◌++◌, map, length, slice_get, slice_set, IfOk, IfErr, IfSome, OnOk, OnErr};
+ghost use Rattle.std.specs.Prelude.{◌≡◌, ◌<◌, ◌≤◌, [], ◌∷◌, ◌++◌, map, length, slice_get, slice_set, IfOk, IfErr, IfSome, OnErr};
 ghost use Rattle.std.specs.List.{filter_map};
-ghost use Rattle.semantics.specs.Scalars.{scalar_drafts};
-ghost use Rattle.semantics.specs.Registry.{shape_limit, NoFault, drafted};
-ghost use Rattle.shape_core.specs.Builder.{named, redefined, finished, IsNameFault, IsCheckFault};
-ghost use Rattle.shape_core.specs.Shapes.{definition_of, draft_of, drafts_of, registry};
+ghost use Rattle.semantics_lines.specs.Scalars.{scalar_drafts};
+ghost use Rattle.semantics_lines.specs.ShapeFaults.{shape_limit};
+ghost use Rattle.semantics.specs.Registry.{NoFault, drafted};
+ghost use Rattle.shape_core.specs.Builder.{finished, IsCheckFault};
+ghost use Rattle.shape_types.specs.Builder.{named, redefined, IsNameFault};
+ghost use Rattle.shape_types.specs.Shapes.{definition_of, drafts_of, registry};
 
 use crate::check::first_fault;
-use crate::definition::Def;
-use crate::draft::Draft;
-use crate::fault::{CheckFault, NameFault};
-use crate::items::Items;
-use crate::memory::OutOfMemory;
-use crate::name::Name;
-use crate::rules::LIMIT;
-use crate::scalar::ScalarType;
-use crate::shape::{Shape, ShapeId};
 use crate::shapes::Shapes;
 use crate::utf8::drafts_utf8;
+use shape_types::{
+    CheckFault, Def, Draft, DraftsBuilder, Items, NameFault, OutOfMemory, Shape, ShapeId,
+};
 use std::alloc::Global;
 use std::marker::Model;
 
@@ -25,34 +21,30 @@ use std::marker::Model;
 /// `'v` is how long texts of declared defaults are borrowed.
 #[derive(Drop)]
 pub struct ShapesBuilder<'v> {
-    alloc: Global,
-    drafts: Vec<Draft<'v>>,
+    drafts: DraftsBuilder<'v>,
 }
 
 impl<'v> Model for ShapesBuilder<'v> {
     ghost use mir.Syntax.{static};
     ghost use Rattle.std.specs.Prelude.{List, []};
     ghost use Rattle.std.specs.Coded.{coded_list};
-    ghost use Rattle.shape_core.specs.declared.draft.Draft.{Draft};
-    ghost use Rattle.shape_core.specs.contracts.draft.Draft.{the_row};
-    ghost use Rattle.shape_core.specs.Builder.{IsDraftList};
+    ghost use Rattle.shape_types.specs.declared.draft.Draft.{Draft};
+    ghost use Rattle.shape_types.specs.contracts.draft.Draft.{the_row};
 
     ghost Value = { List Draft };
 
     ghost coded = { coded_list (the_row (record { mir = static; lft = [] })).coded };
 
-    ghost view = { λ b. b.drafts.items };
-
-    ghost invariant = { λ b. IsDraftList b.drafts.items };
+    ghost view = { λ b. b.drafts };
 }
 
 impl<'v> ShapesBuilder<'v> {
-    /// A builder that holds the scalars, in the order of [`ScalarType::ALL`].
+    /// A builder that holds the scalars, in the order of [`crate::ScalarType::ALL`].
     pub fn new(alloc: Global) -> Result<ShapesBuilder<'v>, OutOfMemory>
         ensures { IfOk result (λ builder. drafts_of builder ≡ scalar_drafts) }
     {
-        let drafts = scalar_drafts(alloc)?;
-        Ok(ShapesBuilder { alloc, drafts })
+        let drafts = DraftsBuilder::new(alloc)?;
+        Ok(ShapesBuilder { drafts })
     }
 
     /// Gives the next number to a shape of this name, which is still to be defined.
@@ -66,18 +58,7 @@ impl<'v> ShapesBuilder<'v> {
         ensures cause { IfErr result (λ fault. IsNameFault (drafts_of self.old) fault) }
         ensures unchanged { OnErr result (self.new ≡ self.old) }
     {
-        let count = self.drafts.len();
-        if count >= LIMIT {
-            return Err(NameFault::TooMany);
-        }
-        let name = Name::copy(self.alloc, name)?;
-        let draft = Draft {
-            name,
-            def: None,
-            proxy: None,
-        };
-        push_draft(&mut self.drafts, draft)?;
-        Ok(ShapeId(count as u32))
+        self.drafts.name(name)
     }
 
     /// Says what a named shape is made of, in place of what was said before. It takes no memory.
@@ -86,7 +67,7 @@ impl<'v> ShapesBuilder<'v> {
         requires named { id.0 < length (drafts_of self.old) }
         ensures { IfSome (slice_get (drafts_of self.old) id.0) (λ draft. drafts_of self.new ≡ slice_set (drafts_of self.old) id.0 (redefined draft (definition_of def.entry))) }
     {
-        redefine(&mut self.drafts[id.0 as usize], def);
+        self.drafts.define(id, def)
     }
 
     /// The registry of these shapes.
@@ -97,7 +78,19 @@ impl<'v> ShapesBuilder<'v> {
         ensures shapes { IfOk result (λ shapes. map drafted (registry shapes) ≡ drafts_of self.entry) }
         ensures cause { IfErr result (λ fault. IsCheckFault (drafts_of self.entry) fault) }
     {
-        let ShapesBuilder { alloc: _, drafts } = self;
+        let ShapesBuilder { drafts } = self;
+        Shapes::from_drafts(alloc, drafts)
+    }
+}
+
+impl<'v> Shapes<'v> {
+    /// The registry of these shapes, as [`ShapesBuilder::check`] gives it.
+    pub fn from_drafts(alloc: Global, builder: DraftsBuilder<'v>) -> Result<Shapes<'v>, CheckFault>
+        ensures sound { IfOk result (λ shapes. NoFault (drafts_of builder.entry)) }
+        ensures shapes { IfOk result (λ shapes. map drafted (registry shapes) ≡ drafts_of builder.entry) }
+        ensures cause { IfErr result (λ fault. IsCheckFault (drafts_of builder.entry) fault) }
+    {
+        let drafts = builder.into_vec();
         if let Some(fault) = first_fault(&drafts) {
             return Err(CheckFault::Fault(fault));
         }
@@ -105,35 +98,6 @@ impl<'v> ShapesBuilder<'v> {
         let shapes = finished(alloc, drafts)?;
         Ok(Shapes::from_items(shapes))
     }
-}
-
-fn scalar_drafts<'v>(alloc: Global) -> Result<Vec<Draft<'v>>, OutOfMemory>
-    ensures { IfOk result (λ drafts. drafts_of drafts.items ≡ scalar_drafts) }
-{
-    let mut drafts = Vec::new(alloc);
-    for scalar in ScalarType::ALL.iter() {
-        let name = Name::copy(alloc, scalar.name())?;
-        drafts.push(Draft {
-            name,
-            def: Some(Def::Scalar(*scalar)),
-            proxy: None,
-        })?;
-    }
-    Ok(drafts)
-}
-
-fn push_draft<'v>(drafts: &mut Vec<Draft<'v>>, draft: Draft<'v>) -> Result<(), OutOfMemory>
-    ensures ok { OnOk result (drafts.new.items ≡ drafts.old.items ++ draft.entry ∷ []) }
-    ensures err { OnErr result (drafts.new.items ≡ drafts.old.items) }
-{
-    drafts.push(draft)?;
-    Ok(())
-}
-
-fn redefine<'v>(draft: &mut Draft<'v>, def: Def<'v>)
-    ensures { draft_of draft.new ≡ redefined (draft_of draft.old) (definition_of def.entry) }
-{
-    draft.def = Some(def);
 }
 
 /// The shapes that are defined.

@@ -2,11 +2,9 @@
 ghost use Rattle.std.specs.Prelude.{◌≡◌, map, option_map};
 ghost use Rattle.std.specs.List.{list_any};
 ghost use Rattle.semantics.specs.Registry.{never_skips, on_definition, has_attribute, is_unbuilt_struct, is_unbuilt, is_not_built};
-ghost use Rattle.shape_core.specs.Shapes.{skip_rule_of, field_of, struct_shape_of, definition_of, draft_of};
+ghost use Rattle.shape_types.specs.Shapes.{skip_rule_of, field_of, struct_shape_of, definition_of, draft_of};
 
-use crate::definition::Def;
-use crate::draft::Draft;
-use crate::field::{Field, SkipRule, StructDef};
+use shape_types::{Def, Draft, Field, SkipRule, StructDef};
 
 fn never_skips(rule: SkipRule) -> bool
     ensures { result ≡ never_skips (skip_rule_of rule) }

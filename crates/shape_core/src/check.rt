@@ -1,16 +1,15 @@
 //! The first rule that a registry breaks.
 ghost use Rattle.std.specs.Prelude.{◌≡◌, ◌≤◌, length, option_map, MatchOption};
-ghost use Rattle.semantics.specs.Registry.{shape_limit, fault_of, fault_at, NoFault, IsFirstFault};
-ghost use Rattle.shape_core.specs.Faults.{fault_kind_of, shape_fault_of};
-ghost use Rattle.shape_core.specs.Shapes.{draft_of, drafts_of};
+ghost use Rattle.semantics_lines.specs.ShapeFaults.{shape_limit};
+ghost use Rattle.semantics.specs.Registry.{fault_of, fault_at, NoFault, IsFirstFault};
+ghost use Rattle.shape_types.specs.Faults.{fault_kind_of, shape_fault_of};
+ghost use Rattle.shape_types.specs.Shapes.{draft_of, drafts_of};
 
 use crate::built::is_not_built;
-use crate::draft::Draft;
-use crate::fault::{ShapeFault, ShapeFaultKind};
 use crate::kinds::{has_bad_item, has_bad_unit};
 use crate::rules::{has_too_many, is_undefined, repeats_name, repeats_shape_name};
-use crate::shape::ShapeId;
 use crate::steps::lies_on_cycle;
+use shape_types::{Draft, ShapeFault, ShapeFaultKind, ShapeId};
 
 /// The least fault of the shape of number `at`.
 fn fault_of(drafts: &[Draft], at: usize, draft: &Draft) -> Option<ShapeFaultKind>

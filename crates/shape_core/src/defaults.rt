@@ -1,19 +1,11 @@
 //! The value that a shape has by itself.
 ghost use Rattle.std.specs.Prelude.{◌≡◌, ◌<◌, None, length, option_map, IfOk};
-ghost use Rattle.semantics.specs.Defaults.{scalar_default, declared_default, default_of, default_at};
-ghost use Rattle.shape_core.specs.Scalars.{scalar_type_of};
-ghost use Rattle.shape_core.specs.Shapes.{definition_of, registry};
-ghost use Rattle.shape_core.specs.Trees.{tree_of};
+ghost use Rattle.semantics.specs.Defaults.{declared_default, default_of, default_at};
+ghost use Rattle.shape_types.specs.Shapes.{definition_of, registry};
+ghost use Rattle.shape_types.specs.Trees.{tree_of};
 
-use crate::definition::Def;
-use crate::items::Items;
-use crate::memory::OutOfMemory;
-use crate::name::Name;
-use crate::scalar::ScalarType;
-use crate::shape::ShapeId;
 use crate::shapes::Shapes;
-use crate::text::Text;
-use crate::value::Value;
+use shape_types::{Def, Items, OutOfMemory, ShapeId, Value};
 use std::alloc::Global;
 
 impl Shapes<'_> {
@@ -48,33 +40,5 @@ fn default_of<'de>(alloc: Global, def: &Def) -> Result<Option<Value<'de>>, OutOf
         Def::Map { .. } => Ok(Some(Value::Map(Items::new(alloc)))),
         Def::Struct(_) => Ok(None),
         Def::Result { .. } | Def::Array { .. } | Def::Enum(_) | Def::Transparent(_) => Ok(None),
-    }
-}
-
-impl ScalarType {
-    /// What the scalar has where nothing is told: unit, false, the character of number 0, 0, or the empty text.
-    pub fn default_value<'de>(self, alloc: Global) -> Result<Value<'de>, OutOfMemory>
-        ensures { IfOk result (λ value. tree_of value ≡ scalar_default (scalar_type_of self)) }
-    {
-        match self {
-            ScalarType::Unit => Ok(Value::Unit),
-            ScalarType::Bool => Ok(Value::Bool(false)),
-            ScalarType::Char => Ok(Value::Char('\0')),
-            ScalarType::U8
-            | ScalarType::U16
-            | ScalarType::U32
-            | ScalarType::U64
-            | ScalarType::U128
-            | ScalarType::USize => Ok(Value::Unsigned(0)),
-            ScalarType::I8
-            | ScalarType::I16
-            | ScalarType::I32
-            | ScalarType::I64
-            | ScalarType::I128
-            | ScalarType::ISize => Ok(Value::Signed(0)),
-            ScalarType::String | ScalarType::Str => {
-                Ok(Value::Text(Text::Owned(Name::copy(alloc, "")?)))
-            }
-        }
     }
 }

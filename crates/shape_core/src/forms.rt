@@ -1,17 +1,14 @@
 //! What the values of a shape are made of, looked up through transparent shapes.
 ghost use Rattle.std.specs.Prelude.{◌≡◌, option_map};
 ghost use Rattle.std.specs.Option.{option_copied};
-ghost use Rattle.semantics.specs.Shapes.{definition_at};
+ghost use Rattle.semantics_lines.specs.Shapes.{definition_at};
 ghost use Rattle.semantics.specs.Typed.{base, scalar_at, option_at, ok_at, err_at, item_at, length_at, struct_at};
 ghost use Rattle.shape_core.specs.Base.{transparent_of};
-ghost use Rattle.shape_core.specs.Scalars.{scalar_type_of};
-ghost use Rattle.shape_core.specs.Shapes.{struct_shape_of, definition_of, registry};
+ghost use Rattle.shape_types.specs.Scalars.{scalar_type_of};
+ghost use Rattle.shape_types.specs.Shapes.{struct_shape_of, definition_of, registry};
 
-use crate::definition::Def;
-use crate::field::StructDef;
-use crate::scalar::ScalarType;
-use crate::shape::ShapeId;
 use crate::shapes::Shapes;
+use shape_types::{Def, ScalarType, ShapeId, StructDef};
 
 fn transparent_of(def: &Def) -> Option<ShapeId>
     ensures { option_map (λ id. id.0) result ≡ transparent_of (definition_of def.now) }

@@ -2,15 +2,12 @@
 ghost use Rattle.std.specs.Prelude.{◌≡◌, ◌&&◌, map, option_map, bytes_eq};
 ghost use Rattle.std.specs.Fmt.{decimal};
 ghost use Rattle.std.specs.List.{list_any};
-ghost use Rattle.semantics.specs.Shapes.{is_tuple, is_unit};
+ghost use Rattle.semantics_lines.specs.Shapes.{is_tuple, is_unit};
 ghost use Rattle.semantics.specs.Registry.{on_definition, on_fields_of, misplaces, has_bad_item, has_some, has_bad_unit};
-ghost use Rattle.shape_core.specs.Shapes.{struct_kind_of, field_of, variant_of, definition_of};
+ghost use Rattle.shape_types.specs.Shapes.{struct_kind_of, field_of, variant_of, definition_of};
 
-use crate::definition::Def;
-use crate::enums::Variant;
-use crate::field::{Field, StructKind};
-use crate::name::Name;
 use itoa::Buffer;
+use shape_types::{Def, Field, Name, StructKind, Variant};
 
 fn is_tuple(kind: StructKind) -> bool
     ensures { result ≡ is_tuple (struct_kind_of kind) }

@@ -1,48 +1,26 @@
-//! Shapes, the checked registry that holds them, and the values that they describe.
+//! The checked registry of shapes, the builder that it is made by, and whether a value is of a shape.
 //!
-//! Contracts speak of the definitions of `semantics`, through the views in `specs/`.
+//! The types of shapes and values are those of `shape_types`, and stand here under the same names. Contracts speak of the
+//! definitions of `semantics`, through the views in `shape_types`.
 #![tactic(auto)]
 
-mod boxed;
 mod builder;
 mod built;
-mod bytes;
 mod check;
-mod copy;
 mod defaults;
-mod definition;
-mod draft;
-mod enums;
-mod fault;
-mod field;
 mod forms;
-mod items;
 mod kinds;
-mod memory;
-mod name;
 mod rules;
-mod scalar;
-mod shape;
 mod shapes;
 mod steps;
-mod text;
 mod types;
 mod utf8;
-mod value;
 
-pub use boxed::Boxed;
 pub use builder::ShapesBuilder;
-pub use bytes::Bytes;
-pub use definition::Def;
-pub use draft::Draft;
-pub use enums::{EnumDef, EnumForm, TagKind, Variant, VariantMode};
-pub use fault::{CheckFault, FacetFault, NameFault, ShapeFault, ShapeFaultKind};
-pub use field::{Field, MetaKind, SkipRule, StructDef, StructKind};
-pub use items::Items;
-pub use memory::OutOfMemory;
-pub use name::Name;
-pub use scalar::ScalarType;
-pub use shape::{Shape, ShapeId, ShapeName};
+pub use shape_types::{
+    Boxed, Bytes, CheckFault, Def, Draft, DraftsBuilder, EnumDef, EnumForm, FacetFault, Field,
+    Items, MetaKind, Name, NameFault, OutOfMemory, Pair, ScalarType, Shape, ShapeFault,
+    ShapeFaultKind, ShapeId, ShapeName, SkipRule, StructDef, StructKind, TagKind, Text, Value,
+    Variant, VariantMode,
+};
 pub use shapes::Shapes;
-pub use text::Text;
-pub use value::{Pair, Value};

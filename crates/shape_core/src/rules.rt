@@ -2,13 +2,9 @@
 ghost use Rattle.std.specs.Prelude.{◌≡◌, ◌≤◌, length, map, take, option_map, bytes_eq};
 ghost use Rattle.std.specs.List.{list_any};
 ghost use Rattle.semantics.specs.Registry.{on_definition, on_fields, has_pair, is_missing, dangles, is_undefined, repeats_shape_name, repeats_field, repeats_variant, repeats_name, is_long, has_many_variants, has_too_many};
-ghost use Rattle.shape_core.specs.Shapes.{field_of, variant_of, definition_of, draft_of, drafts_of};
+ghost use Rattle.shape_types.specs.Shapes.{field_of, variant_of, definition_of, draft_of, drafts_of};
 
-use crate::definition::Def;
-use crate::draft::Draft;
-use crate::enums::Variant;
-use crate::field::Field;
-use crate::shape::ShapeId;
+use shape_types::{Def, Draft, Field, ShapeId, Variant};
 
 /// The most shapes of a registry, fields of a struct or variant, and variants of an enum.
 pub const LIMIT: usize = 65535;

@@ -2,10 +2,9 @@ ghost use Rattle.std.specs.Prelude.{◌≡◌, length, nat_lt, slice_get, option
 ghost use Rattle.std.specs.List.{position};
 ghost use Rattle.std.specs.Option.{option_copied};
 ghost use Rattle.semantics.specs.Registry.{IsRegistry};
-ghost use Rattle.shape_core.specs.Shapes.{shape_of, registry};
+ghost use Rattle.shape_types.specs.Shapes.{shape_of, registry};
 
-use crate::items::Items;
-use crate::shape::{Shape, ShapeId};
+use shape_types::{Items, Shape, ShapeId};
 use std::marker::Model;
 
 /// A checked registry: shapes by their numbers, which keep every rule of [`crate::ShapeFaultKind`].
@@ -21,10 +20,10 @@ impl<'v> Model for Shapes<'v> {
     ghost use mir.Syntax.{static};
     ghost use Rattle.std.specs.Prelude.{List, []};
     ghost use Rattle.std.specs.Coded.{coded_list};
-    ghost use Rattle.shape_core.specs.declared.shape.Shape.{Shape};
-    ghost use Rattle.shape_core.specs.contracts.shape.Shape.{the_row};
+    ghost use Rattle.shape_types.specs.declared.shape.Shape.{Shape};
+    ghost use Rattle.shape_types.specs.contracts.shape.Shape.{the_row};
     ghost use Rattle.semantics.specs.Registry.{IsRegistry};
-    ghost use Rattle.shape_core.specs.Shapes.{registry};
+    ghost use Rattle.shape_types.specs.Shapes.{registry};
 
     ghost Value = { List Shape };
 

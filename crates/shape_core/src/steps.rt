@@ -2,11 +2,9 @@
 ghost use Rattle.std.specs.Prelude.{◌≡◌, [], option_map};
 ghost use Rattle.std.specs.List.{cons_option};
 ghost use Rattle.semantics.specs.Registry.{step_shapes, steps_from, lies_on_cycle};
-ghost use Rattle.shape_core.specs.Shapes.{definition_of, drafts_of};
+ghost use Rattle.shape_types.specs.Shapes.{definition_of, drafts_of};
 
-use crate::definition::Def;
-use crate::draft::Draft;
-use crate::shape::ShapeId;
+use shape_types::{Def, Draft, ShapeId};
 
 /// Where the step leads from a shape that is made so. There is one at most.
 fn step_of(def: &Def) -> Option<ShapeId>

@@ -1,16 +1,13 @@
 //! Which values are of a shape.
 ghost use Rattle.std.specs.Prelude.{◌≡◌, ◌<◌, ◌∷◌, ◌==◌, map, length, option_map, IsTrue};
-ghost use Rattle.semantics.specs.Trees.{char_value, list, trees_of};
+ghost use Rattle.semantics_lines.specs.Trees.{char_value, list, trees_of};
 ghost use Rattle.semantics.specs.Typed.{takes_unit, takes_bool, takes_char, takes_unsigned, takes_signed, takes_text, has_length, typed, each_typed, fields_typed, tree_is_utf8, trees_are_utf8};
-ghost use Rattle.shape_core.specs.Scalars.{scalar_type_of};
-ghost use Rattle.shape_core.specs.Shapes.{field_of, registry};
-ghost use Rattle.shape_core.specs.Trees.{tree_of};
+ghost use Rattle.shape_types.specs.Scalars.{scalar_type_of};
+ghost use Rattle.shape_types.specs.Shapes.{field_of, registry};
+ghost use Rattle.shape_types.specs.Trees.{tree_of};
 
-use crate::field::Field;
-use crate::scalar::ScalarType;
-use crate::shape::ShapeId;
 use crate::shapes::Shapes;
-use crate::value::Value;
+use shape_types::{Field, ScalarType, ShapeId, Value};
 
 impl Shapes<'_> {
     /// Whether the value is of the shape: numbers are in range, an array has its length, and a struct has one value

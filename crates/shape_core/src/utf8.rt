@@ -3,13 +3,9 @@ ghost use Rattle.std.specs.Prelude.{◌≡◌, map, option_map, IsTrue};
 ghost use Rattle.std.specs.List.{list_all};
 ghost use Rattle.semantics.specs.Registry.{name_is_utf8, field_is_utf8, variant_is_utf8, form_is_utf8, definition_is_utf8};
 ghost use Rattle.shape_core.specs.Builder.{defined_is_utf8, draft_is_utf8};
-ghost use Rattle.shape_core.specs.Shapes.{field_of, variant_of, enum_form_of, definition_of, draft_of};
+ghost use Rattle.shape_types.specs.Shapes.{field_of, variant_of, enum_form_of, definition_of, draft_of};
 
-use crate::definition::Def;
-use crate::draft::Draft;
-use crate::enums::{EnumForm, Variant};
-use crate::field::Field;
-use crate::name::Name;
+use shape_types::{Def, Draft, EnumForm, Field, Name, Variant};
 
 fn name_utf8(name: &Option<Name>)
     ensures { IsTrue (name_is_utf8 name.now) }

@@ -4,18 +4,20 @@ use Rattle.std.specs.Prelude.{IsTrue, option_and_then, slice_get}
 use Rattle.std.specs.List.{list_all}
 use Rattle.std.proofs.lemmas.Option.{slice_get_within}
 use borrow.Author.Count.{below_none, below_more}
-use Rattle.semantics.specs.Shapes.{Draft}
-use Rattle.semantics.specs.Scalars.{scalar_drafts}
-use Rattle.semantics.specs.Registry.{ShapeFault, ShapeFaultKind, fault_of, fault_at, NoFaultBelow, NoFault, IsFirstFault}
-use Rattle.semantics.specs.ShapeLines.{ShapeLine, head_line, item_line, field_line, variant_line}
-use Rattle.semantics.specs.ShapeText as mirror
-use Rattle.semantics.specs.ShapeText.{shape_names, shape_count, shape_text, AreLines, is_known, Scope, scope_of, drafts_said, all_names, shapes_of, IsShapeText, IsShapeTextFault, at_line, at_reference, at_head}
-use Rattle.shape_text.specs.declared.shape_fault.ReadShapesError.{ReadShapesError}
-use Rattle.shape_text.specs.declared.shape_fault.ReadShapesError.TheVariants as error
+use Rattle.semantics_lines.specs.Shapes.{Draft}
+use Rattle.semantics_lines.specs.Scalars.{scalar_drafts}
+use Rattle.semantics_lines.specs.ShapeFaults.{ShapeFault, ShapeFaultKind}
+use Rattle.semantics.specs.Registry.{fault_of, fault_at, NoFaultBelow, NoFault, IsFirstFault}
+use Rattle.semantics_lines.specs.ShapeLines.{ShapeLine, head_line, item_line, field_line, variant_line}
+use Rattle.semantics_lines.specs.ShapeText as mirror
+use Rattle.semantics_lines.specs.ShapeText.{shape_names, shape_count, shape_text, AreLines, is_known, Scope, scope_of, drafts_said, all_names, shapes_of}
+use Rattle.semantics.specs.CheckedText.{IsShapeText, IsShapeTextFault, at_line, at_reference, at_head}
+use Rattle.shape_lines.specs.declared.shape_fault.ReadShapesError.{ReadShapesError}
+use Rattle.shape_lines.specs.declared.shape_fault.ReadShapesError.TheVariants as error
 use Rattle.shape_text.specs.ShapeErrors.{IsReadShapesError}
-use Rattle.shape_text.specs.ShapeReading.{AreLinesOf, IsLineFault, IsHeadAt}
-use Rattle.shape_text.specs.ShapeScopes.{IsReferenceFault}
-use Rattle.shape_text.proofs.LineSteps.{scalar_count}
+use Rattle.shape_lines.specs.ShapeReading.{AreLinesOf, IsLineFault, IsHeadAt}
+use Rattle.shape_lines.specs.ShapeScopes.{IsReferenceFault}
+use Rattle.shape_lines.proofs.LineSteps.{scalar_count}
 
 pub line_error : (text : List ℕ) (e : ReadShapesError) → IsLineFault text e → IsReadShapesError text e
 line_error text (error.Fault fault) f = at_line f.before f.left f.whole f.good f.here.refused f.here.at

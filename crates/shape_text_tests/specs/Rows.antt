@@ -1,10 +1,10 @@
 -- Rows of shape texts whose forms aren't built: the text beside what the definitions say of it.
 use Rattle.std.specs.Prelude.{◌≡◌, ℕ, ℤ, pos, negsuc, List, [], ◌∷◌, ◌++◌, Bool, true, false, Option, None, Some, codes}
 use Rattle.std.specs.List.{flat_map}
-use Rattle.semantics.specs.Trees as value
-use Rattle.semantics.specs.Shapes.{StructKind, unit_kind, tuple_struct_kind, named_kind, SkipRule, skip_never, skip_always, skip_none, skip_empty, skip_default, MetaKind, span_meta, doc_meta, tag_meta, tagged_mode, by_name, by_unsigned, by_signed, EnumForm, external, internal, adjacent, numeric, untagged, cow, Field, Variant, enum_shape}
-use Rattle.semantics.specs.ShapeLines.{Head, struct_head, enum_head, Literal, unit_literal, bool_literal, char_literal, unsigned_literal, signed_literal, text_literal, none_literal, empty_literal, own_literal, no_body, item_body, field_body, ShapeLine, head_line, item_line, field_line, variant_line, spelling}
-use Rattle.semantics.specs.ShapeText.{shape_text, scope_of, literal_tree, definition_said}
+use Rattle.semantics_lines.specs.Trees as value
+use Rattle.semantics_lines.specs.Shapes.{StructKind, unit_kind, tuple_struct_kind, named_kind, SkipRule, skip_never, skip_always, skip_none, skip_empty, skip_default, MetaKind, span_meta, doc_meta, tag_meta, tagged_mode, by_name, by_unsigned, by_signed, EnumForm, external, internal, adjacent, numeric, untagged, cow, Field, Variant, enum_shape}
+use Rattle.semantics_lines.specs.ShapeLines.{Head, struct_head, enum_head, Literal, unit_literal, bool_literal, char_literal, unsigned_literal, signed_literal, text_literal, none_literal, empty_literal, own_literal, no_body, item_body, field_body, ShapeLine, head_line, item_line, field_line, variant_line, spelling}
+use Rattle.semantics_lines.specs.ShapeText.{shape_text, scope_of, literal_tree, definition_said}
 
 -- The line is spelled so.
 abbrev pub Says : List ℕ → ShapeLine → Type 0

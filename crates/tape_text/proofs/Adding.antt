@@ -1,9 +1,9 @@
 -- Adding to the bytes of a tape, piece by piece.
 use Rattle.std.proofs.Common.{◌≡◌, ℕ, List, [], ◌++◌, Bool, true, Result, Ok, Err, sym, ap, ◌∙◌, append_assoc, append-nil}
 use Rattle.std.specs.List.{flat_map}
-use Rattle.shape_core.specs.declared.memory.OutOfMemory.{OutOfMemory}
-use Rattle.semantics.specs.Texts.{is_plain}
-use Rattle.semantics.specs.Lines.{escape}
+use Rattle.shape_types.specs.declared.memory.OutOfMemory.{OutOfMemory}
+use Rattle.semantics_lines.specs.Texts.{is_plain}
+use Rattle.semantics_lines.specs.Lines.{escape}
 use Rattle.tape_text.specs.Writer.{Adds}
 use Rattle.tape_text.proofs.Texts.{escape-plain}
 

@@ -5,9 +5,9 @@ use Rattle.std.specs.List.{list_all}
 use Rattle.std.specs.Fmt.{decimal, signed_decimal}
 use Rattle.std.specs.Str.{all_scalars}
 use Rattle.std.proofs.lemmas.Bool.Decides.{nat_tests}
-use Rattle.semantics.specs.Texts.{Phrase, is_plain}
-use Rattle.semantics.specs.Events.{Scalar, unit, null, bool, char, i64, u64, i128, u128, str, bytes, of_struct, of_sequence}
-use Rattle.semantics.specs.Lines.{quoted, hex, magnitude, after, scalar_body, tag_body, IsTapeText, IsTapeScalar}
+use Rattle.semantics_lines.specs.Texts.{Phrase, is_plain}
+use Rattle.semantics_lines.specs.Events.{Scalar, unit, null, bool, char, i64, u64, i128, u128, str, bytes, of_struct, of_sequence}
+use Rattle.semantics_lines.specs.Lines.{quoted, hex, magnitude, after, scalar_body, tag_body, IsTapeText, IsTapeScalar}
 use Rattle.tape_text.specs.Quoted.{unquoted}
 use Rattle.tape_text.specs.Bodies.{Body, opens, closes, next_field, names, tags, holds, bare_at, owned_bytes, key_at, str_at, letter_at, hex_at, variant_at, small_at, small_signed_at, large_at, large_signed_at, body_at}
 use Rattle.tape_text.proofs.Words.{EndsWord, number_at-again}

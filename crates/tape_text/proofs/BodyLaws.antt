@@ -3,8 +3,8 @@ use Rattle.std.proofs.Common.{ℕ, ◌^◌, ◌<◌, ◌≡◌, List, [], ◌∷
 use Rattle.std.specs.Prelude.{nat_lt, codes, encode_utf8}
 use Rattle.std.specs.Fmt.{decimal, signed_decimal}
 use Rattle.std.proofs.lemmas.Bool.Decides.{nat_tests}
-use Rattle.semantics.specs.Events.{char, i64, u64, i128, u128, str, of_struct, of_sequence}
-use Rattle.semantics.specs.Lines.{quoted, hex, after, scalar_body, tag_body, IsTapeText, IsTapeScalar}
+use Rattle.semantics_lines.specs.Events.{char, i64, u64, i128, u128, str, of_struct, of_sequence}
+use Rattle.semantics_lines.specs.Lines.{quoted, hex, after, scalar_body, tag_body, IsTapeText, IsTapeScalar}
 use Rattle.tape_text.specs.Fronts.{strip, number_at, signed_at, bytes_at}
 use Rattle.tape_text.specs.Quoted.{unquoted, text_at, char_at}
 use Rattle.tape_text.specs.Bodies.{Body, opens, closes, next_field, names, tags, holds, Reader, bare_words, fixed, bare_in, bare_at, owned_bytes, key_at, str_at, letter_at, hex_at, variant_at, small_at, small_signed_at, large_at, large_signed_at, rows, by_word, body_in, body_at}

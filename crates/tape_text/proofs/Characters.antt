@@ -6,8 +6,8 @@ use Rattle.std.specs.Str.{bytes_eq, chars, all_scalars, encode_utf8_all, IsUtf8}
 use Rattle.std.proofs.lemmas.Bool.Decides.{nat_tests}
 use Rattle.std.proofs.lemmas.Slice.Eq.{bytes_eq-Decides}
 use Rattle.std.proofs.lemmas.Str.{chars-encodes, encode_same, length-encode, len_utf8_bounds}
-use Rattle.semantics.specs.Texts.{Phrase, is_plain}
-use Rattle.semantics.specs.Lines.{quoted}
+use Rattle.semantics_lines.specs.Texts.{Phrase, is_plain}
+use Rattle.semantics_lines.specs.Lines.{quoted}
 use Rattle.tape_text.specs.Quoted.{text_at, sole, single, char_at}
 use Rattle.tape_text.proofs.Options.{and_then-some, mapped}
 use Rattle.tape_text.proofs.Unquoting.{text-again, text-takes}

@@ -1,9 +1,9 @@
 -- The line of an event is its body and what is told behind it.
 use Rattle.std.proofs.Common.{ℕ, ◌≡◌, List, [], ◌∷◌, ◌++◌, Bool, true, false, cond, ◌||◌, Option, Some, None, is_none, sym, refl, ap, ◌∙◌, append-nil}
 use Rattle.std.specs.Prelude.{codes, option_map}
-use Rattle.semantics.specs.Texts.{Phrase}
-use Rattle.semantics.specs.Events.{Span, Metadata, Note, Scalar, unit, null, bool, char, i64, u64, i128, u128, str, bytes, Key, named, nameless, ordered, scalar, key, tag, of_struct, of_sequence, object_kind, array_kind, Event, leaf, start, stop, span_of}
-use Rattle.semantics.specs.Lines.{quoted, scalar_body, tag_body, suffix, says_nothing, with_metadata, with_some, with_none, scalar_line, key_line, line_of, IsTapeTag, AreTapeTexts, IsTapeMetadata, IsTapeScalar, IsTapeKey, HasTapeTexts}
+use Rattle.semantics_lines.specs.Texts.{Phrase}
+use Rattle.semantics_lines.specs.Events.{Span, Metadata, Note, Scalar, unit, null, bool, char, i64, u64, i128, u128, str, bytes, Key, named, nameless, ordered, scalar, key, tag, of_struct, of_sequence, object_kind, array_kind, Event, leaf, start, stop, span_of}
+use Rattle.semantics_lines.specs.Lines.{quoted, scalar_body, tag_body, suffix, says_nothing, with_metadata, with_some, with_none, scalar_line, key_line, line_of, IsTapeTag, AreTapeTexts, IsTapeMetadata, IsTapeScalar, IsTapeKey, HasTapeTexts}
 use Rattle.tape_text.specs.Suffixes.{metadata}
 use Rattle.tape_text.specs.Bodies.{Body, opens, closes, next_field, names, tags, holds, scalar_takes_metadata, takes_metadata}
 use Rattle.tape_text.specs.Reading.{is_silent, told, noted, line_note, event_from}

@@ -4,7 +4,7 @@ use Rattle.std.specs.Prelude.{nat_lt, option_map, option_and_then}
 use Rattle.std.specs.List.{list_all}
 use Rattle.std.proofs.lemmas.Bool.Decides.{nat_tests}
 use Rattle.std.proofs.lemmas.List.{drop_more}
-use Rattle.semantics.specs.Lines.{hex_digit, hex_pair, hex}
+use Rattle.semantics_lines.specs.Lines.{hex_digit, hex_pair, hex}
 use Rattle.tape_text.specs.Fronts.{until_space, digit, with_byte, paired, unpaired, unhexed, bytes_at}
 use Rattle.tape_text.proofs.Options.{and_then-some, mapped as mapped_by}
 use Rattle.tape_text.proofs.Words.{EndsWord, until-again, until-takes, mapped}

@@ -2,10 +2,10 @@
 use Rattle.std.proofs.Common.{ℕ, ◌≡◌, List, ◌++◌, Bool, true, false, cond, ◌||◌, Option, None, Some, sym, refl, ap, ◌∙◌, subst}
 use Rattle.std.specs.Prelude.{IsTrue, option_and_then}
 use Rattle.std.specs.Str.{is_utf8}
-use Rattle.semantics.specs.Events.{Span, named, nameless, ordered, scalar, key, tag, of_struct, of_sequence, object_kind, array_kind, Event, leaf, start, stop, span_of, unplaced, no_span, Metadata}
-use Rattle.semantics.specs.Lines.{suffix, line_of, HasTapeTexts, IsLineOf, IsNoLine}
-use Rattle.semantics.specs.Tapes.{has_no_end}
-use Rattle.laws.proofs.LineEnds.{line_no_end}
+use Rattle.semantics_lines.specs.Events.{Span, named, nameless, ordered, scalar, key, tag, of_struct, of_sequence, object_kind, array_kind, Event, leaf, start, stop, span_of, unplaced, no_span, Metadata}
+use Rattle.semantics_lines.specs.Lines.{suffix, line_of, HasTapeTexts, IsLineOf, IsNoLine}
+use Rattle.semantics_lines.specs.Tapes.{has_no_end}
+use Rattle.laws_lines.proofs.LineEnds.{line_no_end}
 use Rattle.tape_text.specs.Suffixes.{metadata, metadata_at}
 use Rattle.tape_text.specs.Bodies.{Body, opens, closes, next_field, names, tags, holds, takes_metadata, body_at}
 use Rattle.tape_text.specs.Reading.{is_silent, event_from, event_with, completed, event_of}

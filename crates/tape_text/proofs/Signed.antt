@@ -3,7 +3,7 @@ use Rattle.std.proofs.Common.{ℕ, zero, suc, ℤ, pos, negsuc, ◌+◌, ◌^◌
 use Rattle.std.specs.Prelude.{nat_lt, codes, option_and_then}
 use Rattle.std.proofs.lemmas.Bool.Decides.{nat_tests}
 use Rattle.std.specs.Fmt.{decimal, signed_decimal}
-use Rattle.semantics.specs.Lines.{magnitude}
+use Rattle.semantics_lines.specs.Lines.{magnitude}
 use Rattle.tape_text.specs.Fronts.{strip, until_space, number_of, negative, positive, signed_by, signed_of, signed_at}
 use Rattle.tape_text.proofs.Options.{and_then-some}
 use Rattle.tape_text.proofs.Strip.{strip-takes}

@@ -1,7 +1,7 @@
 -- What stands before the first quote.
 use Rattle.std.proofs.Common.{ℕ, List, ◌++◌, ◌∷◌, ◌≡◌, true, false, Option, Some, None, MatchOption, Bor, ap, ◌∙◌, sym, refl, lit<}
 use Rattle.std.proofs.lemmas.Str.Pattern.{split_after, IsSplitOnceResult}
-use Rattle.semantics.specs.Texts.{is_plain}
+use Rattle.semantics_lines.specs.Texts.{is_plain}
 use Rattle.tape_text.specs.Quoted.{unquoted}
 use Rattle.tape_text.proofs.Texts.{unquoted-again, unquoted-takes, plain-no_quote}
 

@@ -2,8 +2,8 @@
 use Rattle.std.proofs.Common.{ℕ, suc, ◌+◌, ◌<◌, ◌≡◌, ◌≢◌, List, [], ◌∷◌, ◌++◌, true, not, eqb, length, get_or, take, drop, sym, refl, ap, ◌∙◌, arith, zero, Err}
 use Rattle.std.proofs.lemmas.Bool.Decides.{nat_tests}
 use Rattle.std.proofs.lemmas.List.{length-take-le, drop-drop}
-use Rattle.semantics.specs.Faults.{FaultKind, unexpected_eof, ends, stops}
-use Rattle.semantics.specs.Tapes.{at_line, has_no_end}
+use Rattle.semantics_lines.specs.Faults.{FaultKind, unexpected_eof, ends, stops}
+use Rattle.semantics_lines.specs.Tapes.{at_line, has_no_end}
 use Rattle.event_core.specs.Faults.{fault_kind_of, parse_fault}
 use Rattle.event_core.specs.declared.error.DeserializeErrorKind.{DeserializeErrorKind}
 use Rattle.event_core.specs.declared.error.ParseError.{ParseError}

@@ -5,9 +5,9 @@ use Rattle.std.specs.List.{flat_map}
 use Rattle.std.specs.Str.{IsUtf8, IsCharBoundary}
 use Rattle.std.proofs.lemmas.Str.{IsUtf8-drop, IsCharBoundary-after_ascii}
 use Rattle.std.proofs.lemmas.List.{get_or_at, drop_at}
-use Rattle.semantics.specs.Texts.{Phrase}
-use Rattle.semantics.specs.Events.{Metadata}
-use Rattle.semantics.specs.Lines.{escape, quoted, tag_suffix, doc_suffix, suffix, IsTapeText, IsTapeTag, AreTapeTexts}
+use Rattle.semantics_lines.specs.Texts.{Phrase}
+use Rattle.semantics_lines.specs.Events.{Metadata}
+use Rattle.semantics_lines.specs.Lines.{escape, quoted, tag_suffix, doc_suffix, suffix, IsTapeText, IsTapeTag, AreTapeTexts}
 use Rattle.tape_text.specs.Fronts.{strip}
 use Rattle.tape_text.specs.Quoted.{text_at}
 use Rattle.tape_text.specs.Suffixes.{Tagged, tagged, tag_in, tag_at, doc_at, doc_first, docs_at, metadata, with_docs, metadata_at}

@@ -3,11 +3,11 @@ use Rattle.std.proofs.Common.{ℕ, ◌+◌, ◌≡◌, List, [], ◌∷◌, ◌+
 use Rattle.std.specs.Prelude.{IsTrue}
 use Rattle.std.specs.Str.{is_utf8}
 use Rattle.std.proofs.lemmas.Bool.Decides.{nat_tests}
-use Rattle.semantics.specs.Events.{Event, span_of}
-use Rattle.semantics.specs.Faults.{unexpected_eof, invalid_utf8, Fault, Ending, ends, stops, Coming}
-use Rattle.semantics.specs.Lines.{IsLineOf}
-use Rattle.semantics.specs.Tapes.{line_span, IsTapeFrom, IsTape, has_no_end, at_line, IsLineFault, no_end, no_text, no_event}
-use Rattle.semantics.specs.Recoding.{Comes, to_the_end, to_a_fault}
+use Rattle.semantics_lines.specs.Events.{Event, span_of}
+use Rattle.semantics_lines.specs.Faults.{unexpected_eof, invalid_utf8, Fault, Ending, ends, stops, Coming}
+use Rattle.semantics_lines.specs.Lines.{IsLineOf}
+use Rattle.semantics_lines.specs.Tapes.{line_span, IsTapeFrom, IsTape, has_no_end, at_line, IsLineFault, no_end, no_text, no_event}
+use Rattle.semantics_lines.specs.Tapes.{Comes, to_the_end, to_a_fault}
 use Rattle.tape_text.specs.Reading.{event_of}
 use Rattle.tape_text.specs.Coming.{Lines, longer, lines_of, Judged, good, bad, judged_text, judged, before, only, on_line, on_rest, coming_lines, coming_from}
 use Rattle.tape_text.specs.Laws.{TapeIsRead}

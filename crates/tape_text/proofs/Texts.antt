@@ -3,8 +3,8 @@ use Rattle.std.proofs.Common.{ℕ, ◌≡◌, ◌≢◌, List, [], ◌∷◌, �
 use Rattle.std.proofs.lemmas.Bool.Decides.{nat_tests}
 use Rattle.std.specs.Prelude.{◌<◌}
 use Rattle.std.specs.List.{flat_map}
-use Rattle.semantics.specs.Texts.{is_special, is_plain}
-use Rattle.semantics.specs.Lines.{escape}
+use Rattle.semantics_lines.specs.Texts.{is_special, is_plain}
+use Rattle.semantics_lines.specs.Lines.{escape}
 use Rattle.tape_text.specs.Quoted.{with_front, unquoted}
 
 -- a byte that stands for itself

@@ -4,8 +4,8 @@ use Rattle.std.proofs.lemmas.Bool.{cases_eq}
 use Rattle.std.proofs.lemmas.Bool.Decides.{nat_tests}
 use Rattle.std.specs.Option.{option_map, option_and_then}
 use Rattle.std.specs.List.{flat_map}
-use Rattle.semantics.specs.Texts.{Phrase, is_plain}
-use Rattle.semantics.specs.Lines.{escape, quoted, IsTapeText}
+use Rattle.semantics_lines.specs.Texts.{Phrase, is_plain}
+use Rattle.semantics_lines.specs.Lines.{escape, quoted, IsTapeText}
 use Rattle.tape_text.specs.Fronts.{strip}
 use Rattle.tape_text.specs.Quoted.{with_front, unquoted, spelled, with_spelled, unquote, seen, text_at}
 use Rattle.tape_text.proofs.Options.{and_then-some, mapped}

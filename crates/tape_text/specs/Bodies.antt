@@ -1,9 +1,9 @@
 -- Reading the body of a line: what it says before its metadata.
 use Rattle.std.specs.Prelude.{ℕ, List, [], ◌∷◌, Bool, true, false, not, Option, None, Some, option_map, codes}
 use Rattle.std.specs.Option.{option_or}
-use Rattle.semantics.specs.Texts.{Phrase}
-use Rattle.semantics.specs.Events.{Scalar, unit, null, bool, char, i64, u64, i128, u128, str, bytes, Bracket, of_struct, of_sequence}
-use Rattle.semantics.specs.Lines.{is_empty_list}
+use Rattle.semantics_lines.specs.Texts.{Phrase}
+use Rattle.semantics_lines.specs.Events.{Scalar, unit, null, bool, char, i64, u64, i128, u128, str, bytes, Bracket, of_struct, of_sequence}
+use Rattle.semantics_lines.specs.Lines.{is_empty_list}
 use Rattle.tape_text.specs.Fronts.{strip, number_at, signed_at, bytes_at}
 use Rattle.tape_text.specs.Quoted.{unquoted, text_at, char_at}
 

@@ -1,9 +1,9 @@
 -- What comes from a tape: the events of its lines up to the first bad one, and what stands behind them.
 use Rattle.std.specs.Prelude.{ℕ, ◌+◌, ◌==◌, cond, List, [], ◌∷◌, length, take, Option, Some, None}
 use Rattle.std.specs.Str.{is_utf8, chars}
-use Rattle.semantics.specs.Events.{Event}
-use Rattle.semantics.specs.Faults.{unexpected_char, unexpected_eof, invalid_utf8, Fault, Ending, ends, stops, Coming}
-use Rattle.semantics.specs.Tapes.{line_span, first_or_end, at_line}
+use Rattle.semantics_lines.specs.Events.{Event}
+use Rattle.semantics_lines.specs.Faults.{unexpected_char, unexpected_eof, invalid_utf8, Fault, Ending, ends, stops, Coming}
+use Rattle.semantics_lines.specs.Tapes.{line_span, first_or_end, at_line}
 use Rattle.tape_text.specs.Reading.{event_of}
 
 -- the lines of the bytes, each without its line feed, and what stands behind the last of these

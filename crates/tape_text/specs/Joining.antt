@@ -2,8 +2,8 @@
 use Rattle.std.proofs.Common.{◌≡◌, ℕ, List, [], ◌++◌, sym, ap, ◌∙◌, append_assoc, append-nil}
 use Rattle.std.proofs.lemmas.List.Concat.{flat_map-append}
 use Rattle.std.specs.List.{flat_map}
-use Rattle.semantics.specs.Calls.{Call}
-use Rattle.semantics.specs.Tapes.{tape, tape_line, call_events, calls_tape}
+use Rattle.semantics_lines.specs.Calls.{Call}
+use Rattle.semantics_lines.specs.Tapes.{tape, tape_line, call_events, calls_tape}
 
 calls_append : (xs ys : List Call) → calls_tape (xs ++ ys) ≡ calls_tape xs ++ calls_tape ys
 calls_append xs ys = ap tape (flat_map-append call_events xs ys) ∙ flat_map-append tape_line (flat_map call_events xs) (flat_map call_events ys)

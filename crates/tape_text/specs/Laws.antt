@@ -1,10 +1,10 @@
 -- What holds of the reading of a tape.
 use Rattle.std.specs.Prelude.{◌≡◌, ℕ, List, Some, None}
-use Rattle.semantics.specs.Events.{Event, Span, span_of, unplaced}
-use Rattle.semantics.specs.Faults.{Ending, ends}
-use Rattle.semantics.specs.Lines.{IsLineOf, IsNoLine}
-use Rattle.semantics.specs.Tapes.{IsTape}
-use Rattle.semantics.specs.Recoding.{Comes}
+use Rattle.semantics_lines.specs.Events.{Event, Span, span_of, unplaced}
+use Rattle.semantics_lines.specs.Faults.{Ending, ends}
+use Rattle.semantics_lines.specs.Lines.{IsLineOf, IsNoLine}
+use Rattle.semantics_lines.specs.Tapes.{IsTape}
+use Rattle.semantics_lines.specs.Tapes.{Comes}
 use Rattle.tape_text.specs.Reading.{event_of}
 use Rattle.tape_text.specs.Coming.{coming_from}
 

@@ -1,6 +1,6 @@
 -- A parser of a tape: what it still gives, and what stands at a place of its input.
 use Rattle.std.specs.Prelude.{◌≡◌, ◌⊎◌, ◌<◌, ◌≤◌, ℕ, ◌-◌, Bool, true, false, List, [], ◌∷◌, ◌++◌, drop, length, Option, Some, None, Result, Ok, Err}
-use Rattle.semantics.specs.Faults.{ends, stops, Coming}
+use Rattle.semantics_lines.specs.Faults.{ends, stops, Coming}
 use Rattle.event_core.specs.Events.{event_of}
 use Rattle.event_core.specs.Faults.{parse_fault}
 use Rattle.event_core.specs.declared.event.ParseEvent.{ParseEvent}

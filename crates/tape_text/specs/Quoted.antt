@@ -1,7 +1,7 @@
 -- Reading a text between quotes.
 use Rattle.std.specs.Prelude.{ℕ, true, false, List, [], ◌∷◌, ◌++◌, Bool, ◌==◌, ◌&&◌, cond, encode_utf8, Option, None, Some, option_map, option_and_then}
 use Rattle.std.specs.Str.{bytes_eq, chars, all_scalars}
-use Rattle.semantics.specs.Texts.{Phrase, is_special, is_plain}
+use Rattle.semantics_lines.specs.Texts.{Phrase, is_special, is_plain}
 use Rattle.tape_text.specs.Fronts.{strip}
 
 -- a text and what stands behind it

@@ -1,8 +1,8 @@
 -- Reading a line: its event.
 use Rattle.std.specs.Prelude.{ℕ, List, Bool, ◌&&◌, ◌||◌, cond, is_none, Option, None, Some, option_and_then}
-use Rattle.semantics.specs.Texts.{Phrase}
-use Rattle.semantics.specs.Events.{Span, Metadata, Note, named, nameless, ordered, Key, scalar, key, tag, of_struct, of_sequence, Bracket, ContainerKind, object_kind, array_kind, Event, leaf, start, stop}
-use Rattle.semantics.specs.Lines.{is_empty_list}
+use Rattle.semantics_lines.specs.Texts.{Phrase}
+use Rattle.semantics_lines.specs.Events.{Span, Metadata, Note, named, nameless, ordered, Key, scalar, key, tag, of_struct, of_sequence, Bracket, ContainerKind, object_kind, array_kind, Event, leaf, start, stop}
+use Rattle.semantics_lines.specs.Lines.{is_empty_list}
 use Rattle.tape_text.specs.Suffixes.{metadata_at}
 use Rattle.tape_text.specs.Bodies.{Body, opens, closes, next_field, names, tags, holds, takes_metadata, body_at}
 

@@ -1,7 +1,7 @@
 -- Reading what stands behind the body of a line: a tag, and then lines of documentation.
 use Rattle.std.specs.Prelude.{ℕ, zero, suc, List, [], ◌∷◌, length, codes, Option, None, Some, option_map, option_and_then}
-use Rattle.semantics.specs.Texts.{Phrase}
-use Rattle.semantics.specs.Events.{Metadata}
+use Rattle.semantics_lines.specs.Texts.{Phrase}
+use Rattle.semantics_lines.specs.Events.{Metadata}
 use Rattle.tape_text.specs.Fronts.{strip}
 use Rattle.tape_text.specs.Quoted.{text_at}
 

@@ -1,7 +1,7 @@
 -- What is read of a line, as the definitions see it.
 use Rattle.std.specs.Option.{option_map}
-use Rattle.semantics.specs.Events.{of_struct, of_sequence}
-use Rattle.shape_core.specs.Texts.{phrase_of}
+use Rattle.semantics_lines.specs.Events.{of_struct, of_sequence}
+use Rattle.shape_types.specs.Texts.{phrase_of}
 use Rattle.event_core.specs.Events.{scalar_of, bytes_at}
 use Rattle.tape_text.specs.Bodies.{Body, opens, closes, next_field, names, tags, holds}
 use Rattle.tape_text.specs.declared.body.LineBody.{LineBody}

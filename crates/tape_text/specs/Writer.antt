@@ -1,8 +1,8 @@
 -- What a writer of a tape adds to its bytes.
 use Rattle.std.specs.Prelude.{◌≡◌, ℕ, List, [], ◌∷◌, ◌++◌, codes, Result, Ok, Err}
-use Rattle.shape_core.specs.declared.memory.OutOfMemory.{OutOfMemory}
-use Rattle.semantics.specs.Calls.{default_settings}
-use Rattle.semantics.specs.Lines.{quoted, hex}
+use Rattle.shape_types.specs.declared.memory.OutOfMemory.{OutOfMemory}
+use Rattle.semantics_lines.specs.Calls.{default_settings}
+use Rattle.semantics_lines.specs.Lines.{quoted, hex}
 use Rattle.format_traits.specs.Writing.{Writing}
 use Rattle.format_traits.specs.declared.serializer.WriteStop.{WriteStop}
 use Rattle.format_traits.specs.declared.serializer.WriteStop.TheVariants.{Alloc}

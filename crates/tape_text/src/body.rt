@@ -9,7 +9,7 @@ use crate::front::{after, unhexed, word};
 use crate::numbers::{number, signed, wide_number, wide_signed};
 use crate::quoted::{char_at, text_at, unquoted};
 use event_core::ScalarValue;
-use shape_core::{Bytes, OutOfMemory, Text};
+use shape_types::{Bytes, OutOfMemory, Text};
 use std::alloc::Global;
 
 /// What a line says before its metadata.

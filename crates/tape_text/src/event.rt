@@ -4,8 +4,8 @@ ghost use Rattle.std.specs.Option.{option_map};
 ghost use Rattle.event_core.specs.Events.{event_of as view_of};
 ghost use Rattle.event_core.specs.Keys.{full_key, key_of};
 ghost use Rattle.event_core.specs.Metadata.{span_view, metadata_of, note_view};
-ghost use Rattle.semantics.specs.Events.{Note};
-ghost use Rattle.shape_core.specs.Texts.{phrase_of};
+ghost use Rattle.semantics_lines.specs.Events.{Note};
+ghost use Rattle.shape_types.specs.Texts.{phrase_of};
 ghost use Rattle.tape_text.specs.Bodies.{takes_metadata};
 ghost use Rattle.tape_text.specs.Reading.{told, noted, key_with, event_from, event_with, completed, event_of};
 ghost use Rattle.tape_text.specs.Views.{body_of};
@@ -16,7 +16,7 @@ use event_core::{
     ContainerKind, FieldKey, FieldLocationHint, FullFieldKey, ParseEvent, ParseEventKind,
     ScalarValue, Span, ValueMeta,
 };
-use shape_core::{Boxed, OutOfMemory, Text};
+use shape_types::{Boxed, OutOfMemory, Text};
 use std::alloc::Global;
 
 /// Metadata may stand behind the body.

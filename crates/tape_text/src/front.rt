@@ -3,7 +3,7 @@ ghost use Rattle.std.specs.Prelude.{◌≡◌, None, IfOk};
 ghost use Rattle.std.specs.Option.{option_copied};
 ghost use Rattle.tape_text.specs.Fronts.{strip, until_space, digit, unhexed};
 
-use shape_core::{Items, OutOfMemory};
+use shape_types::{Items, OutOfMemory};
 use std::alloc::Global;
 
 /// What stands behind a front of the line, where the line begins with it.

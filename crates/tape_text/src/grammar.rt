@@ -1,7 +1,7 @@
 //! What holds of the reading of a tape.
 ghost use Rattle.std.specs.Prelude.{ℕ, List, IsTrue};
 ghost use Rattle.std.specs.Str.{is_utf8};
-ghost use Rattle.semantics.specs.Events.{Span};
+ghost use Rattle.semantics_lines.specs.Events.{Span};
 ghost use Rattle.tape_text.specs.Laws.{LineIsRead, TapeIsRead, OneLineOneEvent};
 
 /// A line is read as the event whose line it is, and as none where no event has it.

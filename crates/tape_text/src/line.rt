@@ -1,8 +1,8 @@
 //! A line of a tape: its event, or its fault.
 ghost use Rattle.std.specs.Prelude.{◌≡◌, ◌<◌, ◌≤◌, ◌≢◌, ℕ, length, take, get_or, Some, None, MatchOption};
 ghost use Rattle.std.specs.Str.{chars};
-ghost use Rattle.semantics.specs.Faults.{invalid_utf8, unexpected_char, unexpected_eof};
-ghost use Rattle.semantics.specs.Tapes.{first_or_end};
+ghost use Rattle.semantics_lines.specs.Faults.{invalid_utf8, unexpected_char, unexpected_eof};
+ghost use Rattle.semantics_lines.specs.Tapes.{first_or_end};
 ghost use Rattle.event_core.specs.Faults.{fault_kind_of, parse_fault};
 ghost use Rattle.event_core.specs.Metadata.{span_view};
 ghost use Rattle.tape_text.specs.Parser.{JudgesLine, StandsAt};

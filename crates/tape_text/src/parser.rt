@@ -6,7 +6,7 @@ ghost use Rattle.tape_text.specs.Parser.{parsing_of, LooksAt, PutNext};
 use crate::line::{Stop, event_at};
 use event_core::{DeserializeErrorKind, ParseError, ParseEvent, Span};
 use format_traits::FormatParser;
-use shape_core::OutOfMemory;
+use shape_types::OutOfMemory;
 use std::alloc::Global;
 use std::collections::VecDeque;
 use std::marker::Model;

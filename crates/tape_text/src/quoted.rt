@@ -2,12 +2,12 @@
 ghost use Rattle.std.specs.Prelude.{◌≡◌, ◌≤◌, length, encode_utf8, true, false, IfOk, MatchOption, None};
 ghost use Rattle.std.specs.Option.{option_map};
 ghost use Rattle.std.specs.Str.Iter.{chars_rest};
-ghost use Rattle.semantics.specs.Texts.{is_plain};
-ghost use Rattle.shape_core.specs.Texts.{phrase_of};
+ghost use Rattle.semantics_lines.specs.Texts.{is_plain};
+ghost use Rattle.shape_types.specs.Texts.{phrase_of};
 ghost use Rattle.tape_text.specs.Quoted.{with_front, unquoted, spelled, unquote, text_at, single, char_at};
 
 use crate::front::after;
-use shape_core::{Name, OutOfMemory, Text};
+use shape_types::{Name, OutOfMemory, Text};
 use std::alloc::Global;
 use std::str::Chars;
 

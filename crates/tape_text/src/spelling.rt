@@ -1,12 +1,12 @@
 //! Spelling a line of a tape, piece by piece.
 ghost use Rattle.std.specs.Prelude.{◌≡◌, ◌<◌, ◌++◌, ◌∷◌, []};
 ghost use Rattle.std.specs.List.{flat_map};
-ghost use Rattle.semantics.specs.Texts.{is_plain};
-ghost use Rattle.semantics.specs.Lines.{escape, quoted, hex_digit, hex_pair, hex};
+ghost use Rattle.semantics_lines.specs.Texts.{is_plain};
+ghost use Rattle.semantics_lines.specs.Lines.{escape, quoted, hex_digit, hex_pair, hex};
 ghost use Rattle.tape_text.specs.Writer.{Adds, body_text};
 
 use crate::quoted::is_plain;
-use shape_core::OutOfMemory;
+use shape_types::OutOfMemory;
 
 /// What a line holds before its line feed.
 #[derive(Clone, Copy)]

@@ -1,14 +1,14 @@
 //! Reading what stands behind the body of a line: a tag, and then lines of documentation.
 ghost use Rattle.std.specs.Prelude.{◌≡◌, IfOk, length, map};
 ghost use Rattle.std.specs.Option.{option_map};
-ghost use Rattle.shape_core.specs.Texts.{phrase_of};
+ghost use Rattle.shape_types.specs.Texts.{phrase_of};
 ghost use Rattle.event_core.specs.Metadata.{metadata_of};
 ghost use Rattle.tape_text.specs.Suffixes.{tag_at, doc_at, docs_at, with_docs, metadata_at};
 
 use crate::front::after;
 use crate::quoted::text_at;
 use event_core::{Docs, ValueMeta};
-use shape_core::{Items, OutOfMemory, Text};
+use shape_types::{Items, OutOfMemory, Text};
 use std::alloc::Global;
 
 /// A tag, where one stands there, and what stands behind it.

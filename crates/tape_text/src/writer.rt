@@ -1,9 +1,9 @@
 //! The writer of a tape.
 ghost use Rattle.std.specs.Prelude.{◌≡◌, ◌++◌, [], true, nat_lt, codes, encode_utf8};
 ghost use Rattle.std.specs.List.{list_all};
-ghost use Rattle.semantics.specs.Lines.{quoted, hex};
-ghost use Rattle.semantics.specs.Calls.{write_scalar, literal_of};
-ghost use Rattle.semantics.specs.Tapes.{calls_tape};
+ghost use Rattle.semantics_lines.specs.Lines.{quoted, hex};
+ghost use Rattle.semantics_lines.specs.Calls.{write_scalar, literal_of};
+ghost use Rattle.semantics_lines.specs.Tapes.{calls_tape};
 ghost use Rattle.event_core.specs.Events.{scalar_of};
 ghost use Rattle.format_traits.specs.Writing.{Answers};
 ghost use Rattle.tape_text.specs.Joining.{tape_starts, tape_joins};

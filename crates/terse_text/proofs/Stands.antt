@@ -1,8 +1,8 @@
 -- What stands in front of the bytes that are left.
 use Rattle.std.proofs.Common.{ℕ, ◌<◌, ◌≡◌, List, [], ◌∷◌, Option, Some, None, Ok, Err, length, refl, ap, sym, arith, ◌∙◌}
 use Rattle.std.specs.Prelude.{slice_index}
-use Rattle.semantics.specs.Events.{Event}
-use Rattle.semantics.specs.Faults.{Fault, stops, unexpected_char}
+use Rattle.semantics_lines.specs.Events.{Event}
+use Rattle.semantics_lines.specs.Faults.{Fault, stops, unexpected_char}
 use Rattle.event_core.specs.Events.{event_of}
 use Rattle.event_core.specs.Faults.{parse_fault}
 use Rattle.event_core.specs.declared.event.ParseEvent.{ParseEvent}

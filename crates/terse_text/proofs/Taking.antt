@@ -1,6 +1,6 @@
 -- Calls of the parser, each by what stood in front of it.
 use Rattle.std.proofs.Common.{ℕ, ◌+◌, ◌<◌, ◌≤◌, ◌≡◌, ◌⊎◌, List, [], ◌∷◌, ◌++◌, true, false, Some, None, Ok, Err, inr, length, drop, refl, ap, arith}
-use Rattle.semantics.specs.Faults.{Coming}
+use Rattle.semantics_lines.specs.Faults.{Coming}
 use Rattle.event_core.specs.Events.{event_of}
 use Rattle.event_core.specs.declared.event.ParseEvent.{ParseEvent}
 use Rattle.event_core.specs.declared.error.ParseError.{ParseError}

@@ -1,7 +1,7 @@
 -- Terse texts: what each byte says, and what comes of a text.
 use Rattle.std.specs.Prelude.{ℕ, ◌-◌, ◌==◌, ◌&&◌, ◌≡◌, ◌≤◌, nat_le, cond, true, List, [], ◌∷◌, length, drop, Option, Some, None, Result, Ok, Err}
-use Rattle.semantics.specs.Events.{Event, Note, leaf, start, stop, key, named, scalar, u64, null, of_struct, of_sequence, object_kind, array_kind}
-use Rattle.semantics.specs.Faults.{Coming, Ending, ends, stops, unexpected_char}
+use Rattle.semantics_lines.specs.Events.{Event, Note, leaf, start, stop, key, named, scalar, u64, null, of_struct, of_sequence, object_kind, array_kind}
+use Rattle.semantics_lines.specs.Faults.{Coming, Ending, ends, stops, unexpected_char}
 use Rattle.event_core.specs.Events.{event_of}
 use Rattle.event_core.specs.Faults.{parse_fault}
 use Rattle.event_core.specs.declared.event.ParseEvent.{ParseEvent}

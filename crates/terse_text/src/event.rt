@@ -1,11 +1,11 @@
 //! What a byte says.
 ghost use Rattle.std.specs.Prelude.{◌≡◌, ◌<◌, ◌∷◌, [], length, slice_index, option_map};
-ghost use Rattle.semantics.specs.Events.{Note};
+ghost use Rattle.semantics_lines.specs.Events.{Note};
 ghost use Rattle.event_core.specs.Events.{event_from};
 ghost use Rattle.terse_text.specs.Terse.{event_at};
 
 use event_core::{ContainerKind, FieldKey, ParseEventKind, ScalarValue};
-use shape_core::Text;
+use shape_types::Text;
 
 /// What the first byte says. None where no event has it.
 #[tactic(auto, unfolding(crate::specs::Terse::event_at))]

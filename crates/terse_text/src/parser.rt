@@ -1,6 +1,6 @@
 //! The parser.
 ghost use Rattle.std.specs.Prelude.{◌≡◌, ◌⊎◌, [], None, Some, IfOk, IfErr, OnErr};
-ghost use Rattle.semantics.specs.Faults.{unexpected_char};
+ghost use Rattle.semantics_lines.specs.Faults.{unexpected_char};
 ghost use Rattle.event_core.specs.Faults.{parse_fault};
 ghost use Rattle.event_core.specs.Metadata.{span_view};
 ghost use Rattle.format_traits.specs.Parsing.{Failed, Met, IsMemory, HasCause};

@@ -3,7 +3,7 @@ use event_core::{
     ContainerKind, FieldEvidence, FieldKey, ParseEvent, ParseEventKind, PathSegment, ScalarValue,
     ValueTypeHint,
 };
-use shape_core::{OutOfMemory, Text};
+use shape_types::{OutOfMemory, Text};
 use std::alloc::Global;
 use std::process::Abort;
 

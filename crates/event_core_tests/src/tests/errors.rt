@@ -4,7 +4,7 @@ use event_core::{
     DeserializeError, DeserializeErrorKind, ParseError, Path, ReflectError, ReflectErrorKind,
     SerializeError, Span,
 };
-use shape_core::Text;
+use shape_types::Text;
 use std::alloc::Global;
 use std::process::Abort;
 

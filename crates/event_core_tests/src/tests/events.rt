@@ -1,6 +1,6 @@
 use crate::tests::{PLACE, debugs, made, name_key, owned_bytes};
 use event_core::{ContainerKind, ParseEvent, ParseEventKind, ScalarValue, ValueMetaBuilder};
-use shape_core::{Name, Text};
+use shape_types::{Name, Text};
 use std::alloc::Global;
 use std::process::Abort;
 

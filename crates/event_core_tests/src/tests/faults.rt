@@ -1,7 +1,7 @@
 //! What each kind of fault prints.
 use crate::tests::{PLACE, name, point, shows};
 use event_core::{DeserializeErrorKind, ReflectErrorKind};
-use shape_core::Text;
+use shape_types::Text;
 
 #[test]
 fn faults_of_texts_print(rt: HostRuntime) {

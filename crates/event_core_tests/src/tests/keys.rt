@@ -1,6 +1,6 @@
 use crate::tests::{AFTER_KEY, full_key, lines, made, name_key};
 use event_core::{FieldKey, FieldLocationHint};
-use shape_core::{Items, Text};
+use shape_types::{Items, Text};
 use std::process::Abort;
 
 /// The text is this one, where there is one.

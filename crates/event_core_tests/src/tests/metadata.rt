@@ -1,6 +1,6 @@
 use crate::tests::{PLACE, lines, told};
 use event_core::{MetaSource, ValueMeta, ValueMetaBuilder};
-use shape_core::{Items, Text};
+use shape_types::{Items, Text};
 use std::process::Abort;
 
 #[test]

@@ -2,8 +2,8 @@
 ghost use Rattle.std.specs.Prelude.{◌≡◌, ◌<◌, ◌⊎◌, Some, [], length, nat_eq, IfOk, IfErr, IsTrue};
 ghost use Rattle.semantics.specs.Reading.{from_events};
 ghost use Rattle.event_core.specs.Faults.{fault_of};
-ghost use Rattle.shape_core.specs.Shapes.{registry};
-ghost use Rattle.shape_core.specs.Trees.{tree_of};
+ghost use Rattle.shape_types.specs.Shapes.{registry};
+ghost use Rattle.shape_types.specs.Trees.{tree_of};
 ghost use Rattle.laws_machine.specs.Machine.{machine};
 ghost use Rattle.read_steps.specs.Stops.{told_stop, Gives};
 ghost use Rattle.read_steps.specs.Tasks.{terms_of};

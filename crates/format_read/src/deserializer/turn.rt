@@ -1,7 +1,7 @@
 //! Takes an event, and steps.
 ghost use Rattle.std.specs.Prelude.{◌≡◌, ◌<◌, [], None, Some, false, is_none, IfErr, IfOk, IsTrue, OnOk};
-ghost use Rattle.semantics.specs.Faults.{ends};
-ghost use Rattle.semantics.specs.Recoding.{ended_at};
+ghost use Rattle.semantics_lines.specs.Faults.{ends};
+ghost use Rattle.semantics_lines.specs.Faults.{ended_at};
 ghost use Rattle.event_core.specs.Events.{event_of};
 ghost use Rattle.event_core.specs.Metadata.{span_view};
 ghost use Rattle.laws_machine.specs.Steps.{step_at};

@@ -1,6 +1,6 @@
 //! What calls answer, in values that are cheap to compare.
 ghost use Rattle.std.specs.Prelude.{◌≡◌, ◌<◌, length};
-ghost use Rattle.shape_core.specs.Shapes.{registry};
+ghost use Rattle.shape_types.specs.Shapes.{registry};
 
 use crate::tests::listed::Listed;
 use crate::tests::registry::{NUMBERS, POINT, U64};

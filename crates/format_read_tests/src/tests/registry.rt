@@ -1,6 +1,6 @@
 //! A few shapes, by their numbers.
 ghost use Rattle.std.specs.Prelude.{◌<◌, length, IfOk};
-ghost use Rattle.shape_core.specs.Shapes.{registry};
+ghost use Rattle.shape_types.specs.Shapes.{registry};
 
 use plan_core::TypePlans;
 use shape_core::{

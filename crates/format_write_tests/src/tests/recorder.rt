@@ -1,6 +1,6 @@
 //! A serializer that keeps a word of each call, and fails after some.
 ghost use Rattle.std.specs.Prelude.{◌≡◌, ◌≤◌, IfErr, OnOk};
-ghost use Rattle.semantics.specs.Calls.{default_settings};
+ghost use Rattle.semantics_lines.specs.Calls.{default_settings};
 ghost use Rattle.format_traits.specs.Writing.{Writing, Stops};
 
 use event_core::ScalarValue;

@@ -1,9 +1,9 @@
 use Rattle.std.proofs.Common.{◌≡◌, true, false, Ok, Err, ap}
 use Rattle.std.specs.Prelude.{MatchResult}
-use Rattle.semantics.specs.Documents.{Document}
+use Rattle.semantics_lines.specs.Documents.{Document}
 use Rattle.semantics.specs.Writing.{Written, write}
 use Rattle.semantics.specs.Calling.{Part, calls_of}
-use Rattle.semantics.specs.Tapes.{tape, document_tape, calls_tape}
+use Rattle.semantics_lines.specs.Tapes.{tape, document_tape, calls_tape}
 use Rattle.laws.proofs.Called.{TellsForm, value_tells}
 use Rattle.laws.proofs.calls_write.Goals as goal
 

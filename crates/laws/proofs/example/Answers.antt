@@ -4,12 +4,13 @@ use Rattle.std.specs.List.{list_all}
 use Rattle.std.specs.Char.{encode_utf8}
 use Rattle.std.specs.Str.{chars, is_utf8}
 use Rattle.std.specs.Fmt.{digits}
-use Rattle.semantics.specs.Shapes.{Draft}
-use Rattle.semantics.specs.Scalars.{scalar_drafts}
-use Rattle.semantics.specs.Events.{u64, scalar, leaf}
-use Rattle.semantics.specs.Lines.{line_of}
-use Rattle.semantics.specs.Registry.{ShapeFaultKind, shape_is_utf8, fault_at, NoFaultBelow, drafted}
-use Rattle.semantics.specs.Tapes.{document_tape}
+use Rattle.semantics_lines.specs.Shapes.{Draft}
+use Rattle.semantics_lines.specs.Scalars.{scalar_drafts}
+use Rattle.semantics_lines.specs.Events.{u64, scalar, leaf}
+use Rattle.semantics_lines.specs.Lines.{line_of}
+use Rattle.semantics_lines.specs.ShapeFaults.{ShapeFaultKind}
+use Rattle.semantics.specs.Registry.{shape_is_utf8, fault_at, NoFaultBelow, drafted}
+use Rattle.semantics_lines.specs.Tapes.{document_tape}
 use Rattle.laws.specs.Example.{shapes, form, form_tape, at}
 use Rattle.laws.proofs.example.Goals as goal
 

@@ -1,5 +1,5 @@
 use Rattle.std.proofs.Common.{[], refl}
-use Rattle.semantics.specs.Documents.{Document, plain, sequence, object, Documents, no_documents, document, Members, no_members, member, member_list, Permuted, EachPermuted, Reordered}
+use Rattle.semantics_lines.specs.Documents.{Document, plain, sequence, object, Documents, no_documents, document, Members, no_members, member, member_list, Permuted, EachPermuted, Reordered}
 use Rattle.laws.proofs.form_is_valid.Goals as goal
 
 -- each in its own order

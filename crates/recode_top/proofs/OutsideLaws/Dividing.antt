@@ -5,8 +5,8 @@ use Rattle.std.specs.List.{AllByRecursion}
 use Rattle.std.proofs.lemmas.Bool.{ne_eqb, false≢true}
 use Rattle.std.proofs.lemmas.List.{take-append-drop, drop_more, take_more}
 use Rattle.std.proofs.Math.Seq.{take-add}
-use Rattle.semantics.specs.Tapes.{has_no_end}
-use Rattle.semantics.specs.Divided.{IsUndivided, joined, IsDivided}
+use Rattle.semantics_lines.specs.Tapes.{has_no_end}
+use Rattle.semantics_lines.specs.Divided.{IsUndivided, joined, IsDivided}
 
 -- no byte is a line feed
 abbrev pub HasNoEnd : List ℕ → Type 0

@@ -1,5 +1,5 @@
 ghost use Rattle.std.specs.Prelude.{◌≡◌, ◌≢◌, ◌<◌, List, ℕ, length, get_or, MatchOption};
-ghost use Rattle.semantics.specs.Divided.{IsDivided, joined};
+ghost use Rattle.semantics_lines.specs.Divided.{IsDivided, joined};
 
 /// Where the first line feed stands.
 fn line_end(bytes: &[u8]) -> Option<usize>

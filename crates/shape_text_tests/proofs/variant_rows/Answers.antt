@@ -1,6 +1,6 @@
 use Rattle.std.proofs.Common.{refl}
 use Rattle.std.specs.Fmt.{digits}
-use Rattle.semantics.specs.Scalars.{scalar_drafts}
+use Rattle.semantics_lines.specs.Scalars.{scalar_drafts}
 use Rattle.shape_text_tests.proofs.variant_rows.Goals as goal
 
 pub returns : goal.returns

@@ -2,7 +2,7 @@
 use super::shown::gives;
 use event_core::ScalarValue;
 use format_traits::{FormatSerializer, WriteStop};
-use shape_core::{Bytes, Text};
+use shape_types::{Bytes, Text};
 use std::test::*;
 use tape_text::{NoFault, TapeBytes, TapeParser, TapeWriter};
 

@@ -1,11 +1,11 @@
 use Rattle.std.proofs.Common.{◌<◌, Some, None, length, refl, ap, ◌∙◌, arith}
 use Rattle.std.proofs.lemmas.Bool.Decides.{nat_tests}
 use Rattle.std.proofs.lemmas.Result.{err_from_is_err_and}
-use Rattle.semantics.specs.Shapes.{effective_name}
-use Rattle.semantics.specs.Calls.{Settings, begin_struct, field_key, end_struct, begin_seq, end_seq}
+use Rattle.semantics_lines.specs.Shapes.{effective_name}
+use Rattle.semantics_lines.specs.Calls.{Settings, begin_struct, field_key, end_struct, begin_seq, end_seq}
 use Rattle.semantics.specs.Calling.{Part, one_call, then, calls_of}
-use Rattle.shape_core.specs.Shapes.{field_of}
-use Rattle.shape_core.specs.Trees.{tree_of}
+use Rattle.shape_types.specs.Shapes.{field_of}
+use Rattle.shape_types.specs.Trees.{tree_of}
 use Rattle.format_write.specs.Wrote.{writer}
 use Rattle.format_write.proofs.Steps.{then_assoc, begun, not_begun, next, last, failed, halted}
 use Rattle.format_write.proofs.Rows.{list_calls, drop_at, each_at, items_at, fields_at, each_end, items_end, fields_end, items_short, fields_short}

@@ -1,5 +1,5 @@
 use Rattle.std.proofs.Common.{◌≤◌, length}
-use Rattle.semantics.specs.Calls.{end_struct, end_seq}
+use Rattle.semantics_lines.specs.Calls.{end_struct, end_seq}
 use Rattle.semantics.specs.Calling.{one_call, then, sequence_calls, object_calls}
 use Rattle.format_write.specs.Wrote.{writer}
 use Rattle.format_write.proofs.Steps.{Underway}

@@ -1,7 +1,7 @@
 use Rattle.std.proofs.Common.{ap, ◌∙◌}
 use Rattle.semantics.specs.Typed.{takes_unsigned}
 use Rattle.semantics.specs.Numerals.{passing, whole_number}
-use Rattle.shape_core.specs.Scalars.{scalar_type_of}
+use Rattle.shape_types.specs.Scalars.{scalar_type_of}
 use Rattle.read_parts.proofs.Ranges.{unsigned_narrowed}
 use Rattle.read_parts.proofs.text.unsigned_of.Goals as goal
 

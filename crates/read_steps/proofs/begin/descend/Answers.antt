@@ -1,9 +1,9 @@
 use Rattle.std.proofs.Common.{◌≡◌, ◌∙◌, ◌<◌, ◌-◌, suc, Some, false, sym, ap, arith}
 use Rattle.semantics.specs.Causes.{is_nothing_event}
 use Rattle.semantics.specs.Reading.{from_events}
-use Rattle.semantics.specs.Shapes.{option_shape, definition_at}
-use Rattle.shape_core.specs.Shapes.{definition_of}
-use Rattle.shape_core.specs.declared.definition.Def.{Def}
+use Rattle.semantics_lines.specs.Shapes.{option_shape, definition_at}
+use Rattle.shape_types.specs.Shapes.{definition_of}
+use Rattle.shape_types.specs.declared.definition.Def.{Def}
 use Rattle.event_core.specs.Events.{event_of}
 use Rattle.event_core.specs.Metadata.{span_view}
 use Rattle.laws_machine.specs.Begins.{begin}

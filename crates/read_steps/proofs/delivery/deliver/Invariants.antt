@@ -1,5 +1,5 @@
 use Rattle.std.proofs.Common.{◌≡◌, length}
-use Rattle.shape_core.specs.Trees.{tree_of}
+use Rattle.shape_types.specs.Trees.{tree_of}
 use Rattle.laws_machine.specs.Delivery.{deliver}
 use Rattle.read_steps.specs.Tasks.{terms_of}
 use Rattle.read_steps.specs.Views.{open_of}

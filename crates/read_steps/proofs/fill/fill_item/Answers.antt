@@ -1,5 +1,5 @@
 use Rattle.std.proofs.Common.{◌≡◌, ◌∙◌, ap, slice_get, length, arith}
-use Rattle.shape_core.specs.Shapes.{field_of, registry}
+use Rattle.shape_types.specs.Shapes.{field_of, registry}
 use Rattle.event_core.specs.Metadata.{span_view}
 use Rattle.laws_machine.specs.Frames.{path}
 use Rattle.read_steps.specs.Stops.{told_stop}

@@ -1,8 +1,8 @@
 use Rattle.std.proofs.Common.{◌≡◌, ◌-◌, length, map}
 use Rattle.event_core.specs.Metadata.{span_view}
 use Rattle.laws_machine.specs.Frames.{path}
-use Rattle.shape_core.specs.Shapes.{registry}
-use Rattle.shape_core.specs.Trees.{tree_of}
+use Rattle.shape_types.specs.Shapes.{registry}
+use Rattle.shape_types.specs.Trees.{tree_of}
 use Rattle.read_steps.specs.Filling.{filled_at}
 use Rattle.read_steps.specs.Tasks.{terms_of, fields_at}
 use Rattle.read_steps.specs.Views.{open_of}

@@ -1,6 +1,6 @@
 use Rattle.std.proofs.Common.{◌∙◌, map, Ok, sym, ap}
-use Rattle.shape_core.specs.Shapes.{registry}
-use Rattle.shape_core.specs.Trees.{tree_of}
+use Rattle.shape_types.specs.Shapes.{registry}
+use Rattle.shape_types.specs.Trees.{tree_of}
 use Rattle.event_core.specs.Metadata.{span_view}
 use Rattle.laws_machine.specs.Frames.{path}
 use Rattle.read_steps.specs.Stops.{told_stop}

@@ -1,5 +1,5 @@
 use Rattle.std.proofs.Common.{◌∙◌, ap, map, arith}
-use Rattle.shape_core.specs.Shapes.{registry}
+use Rattle.shape_types.specs.Shapes.{registry}
 use Rattle.event_core.specs.Metadata.{span_view}
 use Rattle.laws_machine.specs.Frames.{path}
 use Rattle.read_steps.specs.Filled.{taken_of}

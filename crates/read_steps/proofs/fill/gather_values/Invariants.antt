@@ -1,7 +1,7 @@
 use Rattle.std.proofs.Common.{◌≡◌, [], map, ℕ, ◌≤◌, drop}
 use Rattle.semantics.specs.Places.{below}
-use Rattle.shape_core.specs.Shapes.{field_of, registry}
-use Rattle.shape_core.specs.Trees.{tree_of}
+use Rattle.shape_types.specs.Shapes.{field_of, registry}
+use Rattle.shape_types.specs.Trees.{tree_of}
 use Rattle.event_core.specs.Metadata.{span_view}
 use Rattle.laws_machine.specs.Frames.{path}
 use Rattle.read_steps.specs.Filling.{values_from}

@@ -1,7 +1,7 @@
 use Rattle.std.proofs.Common.{◌∙◌, sym, ap, map}
 use Rattle.std.specs.List.{position_from}
 use Rattle.semantics.specs.Places.{below}
-use Rattle.shape_core.specs.Trees.{tree_of}
+use Rattle.shape_types.specs.Trees.{tree_of}
 use Rattle.read_steps.specs.declared.filled.Filled.{Filled}
 use Rattle.read_steps.specs.Filled.{stands_at, taken_of, or_twice}
 use Rattle.read_steps.specs.Views.{told_of}

@@ -1,11 +1,11 @@
 use Rattle.std.proofs.Common.{◌≡◌, ◌∙◌, ◌+◌, ℕ, length, map, true, false, sym, ap, arith}
 use Rattle.std.proofs.lemmas.List.{length-map}
 use Rattle.semantics.specs.Causes.{has_room}
-use Rattle.semantics.specs.Faults.{too_deep}
+use Rattle.semantics_lines.specs.Faults.{too_deep}
 use Rattle.event_core.specs.Events.{event_of}
 use Rattle.event_core.specs.Metadata.{span_view}
 use Rattle.laws_machine.specs.Frames.{Frames}
-use Rattle.shape_core.specs.Trees.{tree_of}
+use Rattle.shape_types.specs.Trees.{tree_of}
 use Rattle.read_steps.specs.Refusals.{fault_in, length_fault_in}
 use Rattle.read_steps.specs.Stops.{told_stop}
 use Rattle.read_steps.specs.Tasks.{terms_of}

@@ -1,5 +1,5 @@
 use Rattle.std.proofs.Common.{◌≡◌, ◌∙◌, List, suc, true, sym, ap}
-use Rattle.semantics.specs.Faults.{too_deep}
+use Rattle.semantics_lines.specs.Faults.{too_deep}
 use Rattle.event_core.specs.Events.{event_of}
 use Rattle.event_core.specs.Metadata.{span_view}
 use Rattle.laws_machine.specs.Leaves.{leaves, begin_leaves}

@@ -1,7 +1,7 @@
 use Rattle.std.proofs.Common.{◌∙◌, List, ◌∷◌, Ok, Result, sym, ap}
-use Rattle.semantics.specs.Faults.{Fault}
-use Rattle.semantics.specs.Trees.{Tree}
-use Rattle.shape_core.specs.Scalars.{scalar_type_of}
+use Rattle.semantics_lines.specs.Faults.{Fault}
+use Rattle.semantics_lines.specs.Trees.{Tree}
+use Rattle.shape_types.specs.Scalars.{scalar_type_of}
 use Rattle.event_core.specs.Events.{scalar_of}
 use Rattle.event_core.specs.Metadata.{span_view}
 use Rattle.laws_reading.specs.Input.{Input, ◌>>=◌}

@@ -1,5 +1,5 @@
 use Rattle.std.proofs.Common.{◌∙◌, refl, sym, ap}
-use Rattle.semantics.specs.Events.{Span}
+use Rattle.semantics_lines.specs.Events.{Span}
 use Rattle.event_core.specs.Events.{event_of}
 use Rattle.event_core.specs.Metadata.{span_view}
 use Rattle.read_steps.specs.Fits.{Mark, mark_of}

@@ -1,8 +1,8 @@
 use Rattle.event_core.specs.Events.{scalar_of}
 use Rattle.event_core.specs.Kinds.{scalar_name}
 use Rattle.event_core.specs.Metadata.{span_view}
-use Rattle.shape_core.specs.Scalars.{scalar_type_of}
-use Rattle.shape_core.specs.Shapes.{registry}
+use Rattle.shape_types.specs.Scalars.{scalar_type_of}
+use Rattle.shape_types.specs.Shapes.{registry}
 use Rattle.laws_reading.specs.Values.{target_of}
 use Rattle.laws_machine.specs.Delivery.{here}
 use Rattle.laws_machine.specs.Frames.{path}

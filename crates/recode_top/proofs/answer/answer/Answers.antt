@@ -1,6 +1,6 @@
 -- What is answered, whichever part stops.
-use Rattle.shape_core.specs.Shapes.{registry}
-use Rattle.semantics.specs.Tapes.{document_tape}
+use Rattle.shape_types.specs.Shapes.{registry}
+use Rattle.semantics_lines.specs.Tapes.{document_tape}
 use Rattle.recode_top.specs.Requests.{request_of}
 use Rattle.recode_top.proofs.Answering.{is_loaded, stop_made, shapes_refused, fault_excluded, root_found, readable_here}
 use Rattle.recode_top.proofs.answer.answer.Goals as goal

@@ -1,5 +1,5 @@
 -- A refusal of recoding as a stop of the program.
-use Rattle.shape_core.specs.Shapes.{registry}
+use Rattle.shape_types.specs.Shapes.{registry}
 use Rattle.recode_top.proofs.Answering.{tape_refused, tape_complete}
 use Rattle.recode_top.proofs.answer.recoded.Goals as goal
 

@@ -1,7 +1,7 @@
 -- What can be recoded is.
 use Rattle.std.proofs.Common.{List, ℕ, subst, ◌∙◌}
 use Rattle.std.specs.Io.KnownBytes.{Appends}
-use Rattle.semantics.specs.Tapes.{document_tape}
+use Rattle.semantics_lines.specs.Tapes.{document_tape}
 use Rattle.recode_top.specs.Requests.{request_of}
 use Rattle.recode_top.specs.Running.{world}
 use Rattle.recode_top.proofs.Running.{is_answerable, input_completes}

@@ -1,7 +1,7 @@
 -- What reading and then looking for the end says of a value that stands alone.
 use Rattle.std.proofs.Common.{refl}
 use Rattle.semantics.specs.Recoding.{tape_setting}
-use Rattle.shape_core.specs.Shapes.{registry}
+use Rattle.shape_types.specs.Shapes.{registry}
 use Rattle.tape_text.specs.Parser.{parsing_of}
 use Rattle.format_read.specs.Deserializers.{seat_in}
 use Rattle.recode_top.proofs.Alone.{event_taken, refused_value, refused_found, refused_trailing, refused_behind, finds_another}

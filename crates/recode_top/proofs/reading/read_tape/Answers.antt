@@ -1,7 +1,7 @@
 use Rattle.std.proofs.Common.{◌≡◌, ℕ, ap, ◌∙◌, subst}
-use Rattle.semantics.specs.Shapes.{Registry}
+use Rattle.semantics_lines.specs.Shapes.{Registry}
 use Rattle.semantics.specs.Recoding.{tape_setting}
-use Rattle.shape_core.specs.Shapes.{registry}
+use Rattle.shape_types.specs.Shapes.{registry}
 use Rattle.laws_reading.specs.Input.{Input}
 use Rattle.tape_text.specs.Parser.{parsing_of}
 use Rattle.format_read.specs.Deserializers.{owner_of, seat_in}

@@ -1,6 +1,6 @@
 -- The reader's and the writer's clauses, and the laws that join them.
-use Rattle.shape_core.specs.Shapes.{registry}
-use Rattle.shape_core.specs.Trees.{tree_of}
+use Rattle.shape_types.specs.Shapes.{registry}
+use Rattle.shape_types.specs.Trees.{tree_of}
 use Rattle.recode_top.proofs.RecodeLaws.{answer_sound, answer_room, answer_complete, answer_cause, refused_complete, refused_cause}
 use Rattle.recode_top.proofs.recoding.recode.Goals as goal
 

@@ -1,8 +1,8 @@
 use Rattle.std.proofs.Common.{◌≡◌, ◌++◌, ◌∙◌}
-use Rattle.semantics.specs.Calls.{default_settings}
-use Rattle.semantics.specs.Tapes.{calls_tape}
+use Rattle.semantics_lines.specs.Calls.{default_settings}
+use Rattle.semantics_lines.specs.Tapes.{calls_tape}
 use Rattle.tape_text.specs.Writer.{plain_writing}
-use Rattle.shape_core.specs.Trees.{tree_of}
+use Rattle.shape_types.specs.Trees.{tree_of}
 use Rattle.format_write.specs.Wrote.{writer}
 use Rattle.recode_top.proofs.Tapes.{tape_written, tape_unwritten}
 use Rattle.recode_top.proofs.writing.write_tape.Goals as goal

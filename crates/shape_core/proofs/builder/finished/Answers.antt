@@ -3,7 +3,7 @@ use Rattle.std.proofs.lemmas.Grind.{common_steps}
 use Rattle.std.proofs.lemmas.List.{map-append}
 use Rattle.std.proofs.lemmas.List.Elements.{filter_map-append}
 use Rattle.shape_core.specs.Builder.{finished}
-use Rattle.shape_core.specs.Shapes.{drafts_of, draft_of}
+use Rattle.shape_types.specs.Shapes.{drafts_of, draft_of}
 use Rattle.shape_core.proofs.builder.finished.Goals as goal
 
 pub loop-draft-preserved-in-Continue-1 : goal.loop-draft-preserved-in-Continue-1

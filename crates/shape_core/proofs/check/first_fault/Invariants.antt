@@ -1,5 +1,5 @@
 use Rattle.semantics.specs.Registry.{NoFaultBelow}
-use Rattle.shape_core.specs.Shapes.{drafts_of}
+use Rattle.shape_types.specs.Shapes.{drafts_of}
 use Rattle.shape_core.proofs.check.first_fault.Given as goal
 
 abbrev pub invariant-loop-at : goal.invariant-loop-at

@@ -1,6 +1,6 @@
 use Rattle.std.proofs.Common.{◌≡◌, drop, map}
 use Rattle.semantics.specs.Registry.{misplaces}
-use Rattle.shape_core.specs.Shapes.{field_of}
+use Rattle.shape_types.specs.Shapes.{field_of}
 use Rattle.shape_core.proofs.kinds.misplaces.Given as goal
 
 abbrev pub invariant-loop-place : goal.invariant-loop-place

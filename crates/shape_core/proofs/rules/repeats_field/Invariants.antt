@@ -1,7 +1,7 @@
 use Rattle.std.specs.Slice.Iter.{iter_rest}
 use Rattle.std.proofs.Common.{◌≡◌, length, map}
 use Rattle.semantics.specs.Registry.{repeats_field}
-use Rattle.shape_core.specs.Shapes.{field_of}
+use Rattle.shape_types.specs.Shapes.{field_of}
 use Rattle.shape_core.proofs.rules.repeats_field.Given as goal
 
 abbrev pub invariant-loop-first : goal.invariant-loop-first

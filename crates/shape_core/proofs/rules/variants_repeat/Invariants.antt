@@ -2,7 +2,7 @@ use Rattle.std.specs.Slice.Iter.{iter_rest}
 use Rattle.std.proofs.Common.{◌≡◌, length, map}
 use Rattle.std.specs.Prelude.{bytes_eq}
 use Rattle.semantics.specs.Registry.{has_pair}
-use Rattle.shape_core.specs.Shapes.{variant_of}
+use Rattle.shape_types.specs.Shapes.{variant_of}
 use Rattle.shape_core.proofs.rules.variants_repeat.Given as goal
 
 abbrev pub invariant-loop-first : goal.invariant-loop-first

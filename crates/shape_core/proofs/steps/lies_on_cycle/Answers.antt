@@ -1,6 +1,6 @@
 use Rattle.std.proofs.Common.{◌∙◌, [], sym, ap, length, option_map}
 use Rattle.std.specs.List.{cons_option}
-use Rattle.shape_core.specs.Shapes.{drafts_of}
+use Rattle.shape_types.specs.Shapes.{drafts_of}
 use Rattle.shape_core.proofs.Walks.{next_step}
 use Rattle.shape_core.proofs.steps.lies_on_cycle.Goals as goal
 

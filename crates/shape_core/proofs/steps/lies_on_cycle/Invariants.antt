@@ -1,6 +1,6 @@
 use Rattle.std.proofs.Common.{◌≡◌, ◌-◌, length}
 use Rattle.semantics.specs.Registry.{steps_to}
-use Rattle.shape_core.specs.Shapes.{drafts_of}
+use Rattle.shape_types.specs.Shapes.{drafts_of}
 use Rattle.shape_core.proofs.steps.lies_on_cycle.Given as goal
 
 abbrev pub invariant-walk : goal.invariant-walk

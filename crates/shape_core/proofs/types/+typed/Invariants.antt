@@ -1,8 +1,8 @@
 use Rattle.std.proofs.Common.{◌≡◌, ◌≤◌, length, drop, map}
-use Rattle.semantics.specs.Trees.{trees_of}
+use Rattle.semantics_lines.specs.Trees.{trees_of}
 use Rattle.semantics.specs.Typed.{each_typed, fields_typed, trees_are_utf8}
-use Rattle.shape_core.specs.Shapes.{field_of, registry}
-use Rattle.shape_core.specs.Trees.{tree_of}
+use Rattle.shape_types.specs.Shapes.{field_of, registry}
+use Rattle.shape_types.specs.Trees.{tree_of}
 use Rattle.shape_core.proofs.types.+typed.Given as goal
 
 abbrev pub invariant-each_typed-loop-value : goal.invariant-each_typed-loop-value

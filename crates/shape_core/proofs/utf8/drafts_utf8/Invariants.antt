@@ -1,7 +1,7 @@
 use Rattle.std.proofs.Common.{◌≡◌, drop, map}
 use Rattle.std.specs.List.{list_all}
 use Rattle.shape_core.specs.Builder.{draft_is_utf8}
-use Rattle.shape_core.specs.Shapes.{draft_of}
+use Rattle.shape_types.specs.Shapes.{draft_of}
 use Rattle.shape_core.proofs.utf8.drafts_utf8.Given as goal
 
 abbrev pub invariant-loop-draft : goal.invariant-loop-draft

@@ -1,7 +1,7 @@
 use Rattle.std.proofs.Common.{◌≡◌, drop, map}
 use Rattle.std.specs.List.{list_all}
 use Rattle.semantics.specs.Registry.{field_is_utf8}
-use Rattle.shape_core.specs.Shapes.{field_of}
+use Rattle.shape_types.specs.Shapes.{field_of}
 use Rattle.shape_core.proofs.utf8.fields_utf8.Given as goal
 
 abbrev pub invariant-loop-field : goal.invariant-loop-field

@@ -1,16 +1,16 @@
 use Rattle.std.proofs.Common.{List, ◌≡◌, ◌<◌, true, sym, ap, ◌∙◌, map, subst}
 use Rattle.std.specs.List.{list_all}
 use Rattle.std.proofs.lemmas.Result.{err_from_is_err_and}
-use Rattle.semantics.specs.Shapes.{Draft}
+use Rattle.semantics_lines.specs.Shapes.{Draft}
 use Rattle.semantics.specs.Registry.{IsFirstFault}
-use Rattle.semantics.specs.ShapeText.{all_names, is_known, shape_count, shapes_of}
-use Rattle.shape_core.specs.Faults.{shape_fault_of}
-use Rattle.shape_text.specs.declared.shape_line.ShapeLine as declared
-use Rattle.shape_text.specs.declared.shape_fault.ReadShapesError.{ReadShapesError}
+use Rattle.semantics_lines.specs.ShapeText.{all_names, is_known, shape_count, shapes_of}
+use Rattle.shape_types.specs.Faults.{shape_fault_of}
+use Rattle.shape_lines.specs.declared.shape_line.ShapeLine as declared
+use Rattle.shape_lines.specs.declared.shape_fault.ReadShapesError.{ReadShapesError}
 use Rattle.shape_text.specs.ShapeErrors.{IsReadShapesError}
-use Rattle.shape_text.specs.ShapeLines.{shape_line}
-use Rattle.shape_text.specs.ShapeReading.{IsHeadAt}
-use Rattle.shape_text.specs.ShapeScopes.{IsReferenceFault}
+use Rattle.shape_lines.specs.ShapeLines.{shape_line}
+use Rattle.shape_lines.specs.ShapeReading.{IsHeadAt}
+use Rattle.shape_lines.specs.ShapeScopes.{IsReferenceFault}
 use Rattle.shape_text.proofs.ShapeTexts.{line_error, reference_error, fault_is_shape, rule_error}
 use Rattle.shape_text.proofs.text.read_shapes.Goals as goal
 

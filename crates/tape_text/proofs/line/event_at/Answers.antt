@@ -1,7 +1,7 @@
 use Rattle.std.proofs.Common.{◌+◌, ◌-◌, ◌<◌, ◌≡◌, length, take, drop, sym, ap, ◌∙◌, arith, length-drop}
 use Rattle.std.proofs.lemmas.List.{take_rest}
 use Rattle.std.proofs.lemmas.Bool.Decides.{nat_tests}
-use Rattle.semantics.specs.Faults.{stops}
+use Rattle.semantics_lines.specs.Faults.{stops}
 use Rattle.tape_text.specs.Coming.{only, on_line}
 use Rattle.tape_text.specs.Parser.{coming_at}
 use Rattle.tape_text.proofs.Stands.{line_stands, stop_stands, rest_stands, rest_some, rest_none}

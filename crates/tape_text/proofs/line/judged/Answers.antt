@@ -1,8 +1,8 @@
 use Rattle.std.proofs.Common.{◌≡◌, Some, None, sym, ap, ◌∙◌, take}
 use Rattle.std.specs.Str.{is_utf8, chars}
 use Rattle.std.proofs.lemmas.Str.{IsUtf8-from_is_utf8, is_utf8-from_IsUtf8}
-use Rattle.semantics.specs.Faults.{unexpected_char, invalid_utf8}
-use Rattle.semantics.specs.Tapes.{at_line, first_or_end, line_span}
+use Rattle.semantics_lines.specs.Faults.{unexpected_char, invalid_utf8}
+use Rattle.semantics_lines.specs.Tapes.{at_line, first_or_end, line_span}
 use Rattle.event_core.specs.Events.{event_of as view_of}
 use Rattle.tape_text.specs.Reading.{event_of}
 use Rattle.tape_text.specs.Coming.{bad}

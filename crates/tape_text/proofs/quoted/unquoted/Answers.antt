@@ -1,7 +1,7 @@
 use Rattle.std.proofs.Common.{◌≡◌, true, false, Some, ap, ◌∙◌, sym, lit<}
 use Rattle.std.specs.Option.{option_map}
 use Rattle.std.proofs.lemmas.Str.Pattern.{split_parts}
-use Rattle.semantics.specs.Texts.{is_plain}
+use Rattle.semantics_lines.specs.Texts.{is_plain}
 use Rattle.tape_text.proofs.Splits.{quote-found, quote-none, quote-special}
 use Rattle.tape_text.proofs.quoted.unquoted.Goals as goal
 

@@ -1,5 +1,5 @@
 use Rattle.std.proofs.Common.{◌≡◌, ◌++◌, take}
-use Rattle.semantics.specs.Lines.{hex}
+use Rattle.semantics_lines.specs.Lines.{hex}
 use Rattle.tape_text.proofs.spelling.put_hex.Given as goal
 
 abbrev pub invariant-items : goal.invariant-items

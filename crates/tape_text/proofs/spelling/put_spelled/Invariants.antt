@@ -1,6 +1,6 @@
 use Rattle.std.proofs.Common.{◌≡◌, ◌++◌, take}
 use Rattle.std.specs.List.{flat_map}
-use Rattle.semantics.specs.Lines.{escape}
+use Rattle.semantics_lines.specs.Lines.{escape}
 use Rattle.tape_text.proofs.spelling.put_spelled.Given as goal
 
 abbrev pub invariant-bytes : goal.invariant-bytes

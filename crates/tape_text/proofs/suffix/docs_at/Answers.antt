@@ -1,7 +1,7 @@
 use Rattle.std.proofs.Common.{◌<◌, ◌≡◌, ◌++◌, ◌∷◌, [], length, map, Some, None, sym, ap, ◌∙◌, subst, arith}
 use Rattle.std.proofs.lemmas.Bool.Decides.{nat_tests}
 use Rattle.std.proofs.lemmas.List.{map-append}
-use Rattle.shape_core.specs.Texts.{phrase_of}
+use Rattle.shape_types.specs.Texts.{phrase_of}
 use Rattle.tape_text.specs.Suffixes.{doc_at}
 use Rattle.tape_text.proofs.Suffixes.{ReadDocs, read_none, read_more, read_over, read_bad, doc_shorter}
 use Rattle.tape_text.proofs.suffix.docs_at.Goals as goal

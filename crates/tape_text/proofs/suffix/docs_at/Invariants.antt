@@ -1,5 +1,5 @@
 use Rattle.std.proofs.Common.{map, length}
-use Rattle.shape_core.specs.Texts.{phrase_of}
+use Rattle.shape_types.specs.Texts.{phrase_of}
 use Rattle.tape_text.proofs.Suffixes.{ReadDocs}
 use Rattle.tape_text.proofs.suffix.docs_at.Given as goal
 

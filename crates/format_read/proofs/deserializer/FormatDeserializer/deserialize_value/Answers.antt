@@ -1,7 +1,7 @@
 -- What the machine answers, in the words of the definitions.
 use Rattle.std.proofs.Common.{nat_eq, ap, subst, Ok, Err}
-use Rattle.shape_core.specs.Shapes.{registry}
-use Rattle.shape_core.specs.Trees.{tree_of}
+use Rattle.shape_types.specs.Shapes.{registry}
+use Rattle.shape_types.specs.Trees.{tree_of}
 use Rattle.format_read.specs.Deserializers.{seat_in}
 use Rattle.format_read.specs.Deserializing.{setting, IsRead, Answers, IsCaused}
 use Rattle.read_steps.specs.Stops.{told_stop}

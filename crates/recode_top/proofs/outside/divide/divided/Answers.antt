@@ -4,7 +4,7 @@ use Rattle.std.proofs.lemmas.List.{take_rest, take_all, take-append-drop}
 use Rattle.std.proofs.lemmas.Slice.Eq.{slice_eq-Decides}
 use Rattle.std.proofs.lemmas.Bool.Decides.{Decides-eqb}
 use Rattle.std.proofs.lemmas.Bool.{false≢true}
-use Rattle.semantics.specs.Divided.{IsUndivided, IsDivided}
+use Rattle.semantics_lines.specs.Divided.{IsUndivided, IsDivided}
 use Rattle.recode_top.proofs.OutsideLaws.Dividing.{HasNoEnd, undivided, no_end-take, divided_here, plain-push, step_over, never_divided}
 use Rattle.recode_top.proofs.outside.divide.divided.Goals as goal
 

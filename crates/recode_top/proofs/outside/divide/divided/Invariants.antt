@@ -1,6 +1,6 @@
 use Rattle.std.proofs.Common.{ℕ, ◌≡◌, ◌≤◌, ◌-◌, List, length, take}
 use Rattle.std.specs.List.{AllByRecursion}
-use Rattle.semantics.specs.Divided.{IsUndivided, joined}
+use Rattle.semantics_lines.specs.Divided.{IsUndivided, joined}
 use Rattle.recode_top.proofs.outside.divide.divided.Given as goal
 
 abbrev pub invariant-lines : goal.invariant-lines

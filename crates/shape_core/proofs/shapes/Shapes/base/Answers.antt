@@ -1,5 +1,5 @@
 use Rattle.std.proofs.Common.{◌<◌, ◌∙◌, length, sym, ap, arith}
-use Rattle.shape_core.specs.Shapes.{registry, shape_of}
+use Rattle.shape_types.specs.Shapes.{registry, shape_of}
 use Rattle.shape_core.proofs.Lists.{length_map}
 use Rattle.shape_core.proofs.Typing.{base_step}
 use Rattle.shape_core.proofs.shapes.Shapes.base.Goals as goal

@@ -1,6 +1,6 @@
 use Rattle.std.proofs.Common.{◌≡◌, ◌-◌, length}
 use Rattle.semantics.specs.Typed.{base, base_within}
-use Rattle.shape_core.specs.Shapes.{registry}
+use Rattle.shape_types.specs.Shapes.{registry}
 use Rattle.shape_core.proofs.shapes.Shapes.base.Given as goal
 
 abbrev pub invariant-loop-step : goal.invariant-loop-step

@@ -1,6 +1,6 @@
 use Rattle.std.proofs.Common.{option_map, sym, ap, ◌∙◌}
 use Rattle.std.specs.Option.{option_copied}
-use Rattle.shape_core.specs.Shapes.{definition_of, registry}
+use Rattle.shape_types.specs.Shapes.{definition_of, registry}
 use Rattle.shape_core.proofs.Undeclared.{base_undeclared}
 use Rattle.shape_core.proofs.shapes.Shapes.default_of.Goals as goal
 

@@ -1,5 +1,0 @@
-use Rattle.laws.proofs.Divisions.{one_division as divided_once}
-use Rattle.laws.proofs.one_division.Goals as goal
-
-pub returns : goal.returns
-returns c = divided_once

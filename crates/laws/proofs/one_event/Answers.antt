@@ -1,5 +1,0 @@
-use Rattle.laws.proofs.LineLaws.{one_content}
-use Rattle.laws.proofs.one_event.Goals as goal
-
-pub returns : goal.returns
-returns c a b line x y = one_content a b line x y

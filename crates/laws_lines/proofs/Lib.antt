@@ -1,0 +1,11 @@
+pub mod Tests
+pub mod LineReader
+pub mod LineLaws
+pub mod Texts
+pub mod Escapes
+pub mod LineEnds
+pub mod OneTape
+pub mod ShapeLineParts
+pub mod ShapeLineLaws
+pub mod Divisions
+pub mod ShapeTextLines

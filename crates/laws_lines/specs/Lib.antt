@@ -1,0 +1,2 @@
+pub mod ShapeLineReading
+pub mod Laws

@@ -1,0 +1,14 @@
+pub mod Texts
+pub mod Trees
+pub mod Shapes
+pub mod Events
+pub mod Faults
+pub mod Calls
+pub mod Scalars
+pub mod ShapeFaults
+pub mod Documents
+pub mod Lines
+pub mod Tapes
+pub mod ShapeLines
+pub mod ShapeText
+pub mod Divided

@@ -1,0 +1,5 @@
+pub mod ShapeLines
+pub mod ShapePlaces
+pub mod ShapeScopes
+pub mod ShapeReading
+pub mod ShapeErrors

@@ -1,9 +1,0 @@
-use Rattle.std.proofs.Common.{map}
-use Rattle.shape_core.specs.Shapes.{drafts_of}
-use Rattle.semantics.specs.ShapeText.{scope_of}
-use Rattle.shape_text.specs.ShapeLines.{shape_line}
-use Rattle.shape_text.proofs.Defining.{DefiningAt}
-use Rattle.shape_text.proofs.shape_definitions.define_shapes.Given as goal
-
-abbrev pub invariant-lines : goal.invariant-lines
-invariant-lines l = DefiningAt (scope_of (map shape_line l.lines)) l.lines l.at (drafts_of l.builder) l.number

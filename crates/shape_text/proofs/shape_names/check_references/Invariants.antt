@@ -1,8 +1,0 @@
-use Rattle.std.proofs.Common.{◌≡◌, true, map, take}
-use Rattle.std.specs.List.{list_all}
-use Rattle.semantics.specs.ShapeText.{is_known}
-use Rattle.shape_text.specs.ShapeLines.{shape_line, texts}
-use Rattle.shape_text.proofs.shape_names.check_references.Given as goal
-
-abbrev pub invariant-lines : goal.invariant-lines
-invariant-lines l = list_all (is_known (texts l.names)) (map shape_line (take l.at l.lines)) ≡ true

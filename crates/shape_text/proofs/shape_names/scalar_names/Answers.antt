@@ -1,8 +1,0 @@
-use Rattle.std.proofs.Common.{◌∙◌, map, ap}
-use Rattle.std.proofs.lemmas.List.{take_all}
-use Rattle.shape_core.specs.Scalars.{scalar_name, all_scalars}
-use Rattle.shape_text.proofs.Names.{all_scalar_texts}
-use Rattle.shape_text.proofs.shape_names.scalar_names.Goals as goal
-
-pub returns : goal.returns
-returns c = c.loop-scalar.invariant ∙ ap (map scalar_name) (take_all c.loop-scalar.scalar-index all_scalars c.loop-scalar-test.false) ∙ all_scalar_texts
