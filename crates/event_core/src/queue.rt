@@ -79,6 +79,10 @@ impl<'de> EventQueue<'de> {
         ensures unchanged { OnErr result (self.new ≡ self.old) }
         ensures kept { OnErr result (batch.new.items ≡ batch.old.items) }
     {
+        if self.events.is_empty() {
+            std::mem::swap(&mut self.events, batch);
+            return Ok(());
+        }
         match self.events.append(batch) {
             Ok(()) => Ok(()),
             Err(_) => Err(OutOfMemory),
@@ -145,13 +149,11 @@ impl<'de> EventQueue<'de> {
         ensures took { MatchOption result (self.old.ahead ≡ []) (λ e. Took e self.old self.new) }
         ensures none { IsNone result → self.new ≡ self.old }
     {
-        match self.events.pop_front() {
-            None => None,
-            Some(event) => {
-                self.again = self.again.saturating_sub(1);
-                Some(event)
-            }
+        let event = self.events.pop_front();
+        if event.is_some() {
+            self.again = self.again.saturating_sub(1);
         }
+        event
     }
 
     /// Opens a save, of which there is none yet. It takes no memory.
