@@ -2,12 +2,12 @@ pub mod Stops
 pub mod Tasks
 pub mod Passing
 pub mod Views
+pub mod Kinds
 pub mod Statuses
 pub mod Keys
 pub mod Filled
 pub mod Filling
 pub mod Fits
 pub mod Refusals
-pub mod Tops
 pub mod Leaving
 pub mod Stepping

@@ -1,5 +1,5 @@
 -- What stays the same while a value is read, as the definitions see it.
-use Rattle.std.specs.Prelude.{ℕ, true, List, [], Option, Some, Bool, false}
+use Rattle.std.specs.Prelude.{ℕ, List, [], Option, Some, Bool, false}
 use Rattle.semantics_lines.specs.Shapes.{Field, Definition, struct_shape, Registry, definition_at}
 use Rattle.semantics.specs.Causes.{Side}
 use Rattle.shape_types.specs.Shapes.{registry}
@@ -9,9 +9,9 @@ use Rattle.read_steps.specs.declared.task.Task.{Task}
 use Rattle.read_steps.specs.declared.task.Sides.{Sides as DeclaredSides}
 use Rattle.read_steps.specs.declared.task.Side.{Side as DeclaredSide}
 
--- how values are read: the parser tells what its values are
+-- how values are read
 abbrev pub terms_of : Task → Terms
-terms_of t = record { setting = record { registry = registry t.shapes.now; borrow = t.borrow; describes_itself = true }; limit = t.limit }
+terms_of t = record { setting = record { registry = registry t.shapes.now; borrow = t.borrow; describes_itself = t.describes_itself }; limit = t.limit }
 
 -- the shapes of both sides of a result
 abbrev pub sides_view : DeclaredSides → Sides

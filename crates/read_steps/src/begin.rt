@@ -14,7 +14,6 @@ ghost use Rattle.event_core.specs.Metadata.{span_view};
 ghost use Rattle.laws_reading.specs.Values.{Terms, target_of};
 ghost use Rattle.laws_machine.specs.Delivery.{deliver};
 ghost use Rattle.laws_machine.specs.Begins.{begin, begin_scalar, begin_result, begin_items, begin_tuple, begin_object};
-ghost use Rattle.laws_machine.specs.Frames.{option};
 ghost use Rattle.read_steps.specs.Leaving.{inner_in};
 ghost use Rattle.read_steps.specs.Refusals.{fault_in};
 ghost use Rattle.read_steps.specs.Fits.{as_scalar};
@@ -28,15 +27,16 @@ use crate::expected::{Expected, Unfit};
 use crate::fields::field_at;
 use crate::fits::{
     Begun, TupleForm, begin_of, fit_sequence_start, fit_struct_start, fit_tuple, is_nothing_event,
-    let_go,
 };
-use crate::frames::{Frame, ItemsPart, Moved, Next, NodePart, ResultPart, StructPart, TuplePart};
+use crate::frames::{
+    Frame, ItemsPart, Moved, Next, NodePart, ResultPart, StructPart, TuplePart, open_frame,
+};
 use crate::refusal::{too_deep, unexpected};
 use crate::scalar::set_value;
 use crate::stop::ReadStop;
 use crate::task::{ItemsOf, Sides, Task, Wanted};
 use event_core::{ParseEvent, ScalarValue, Span};
-use shape_core::{Def, Items, OutOfMemory, ScalarType, ShapeId, StructKind, Value};
+use shape_core::{Def, Items, ScalarType, ShapeId, StructKind, Value};
 
 /// Begins a part of this depth, behind what stood before the event.
 pub fn begin_part<'de>(
@@ -45,13 +45,12 @@ pub fn begin_part<'de>(
     shape: ShapeId,
     depth: usize,
     before: Span,
-    event: ParseEvent<'de>,
+    event: &mut ParseEvent<'de>,
 ) -> Result<Moved<'de>, ReadStop<'de>>
-    ensures exact { Gives told_stop (λ m. moved_of m (open_of (terms_of task.now) stack.new.items)) result (begin (terms_of task.now) depth shape.0 from_events (open_of (terms_of task.now) stack.old.items) (span_view before) (event_of event.entry)) }
+    ensures exact { Gives told_stop (λ m. moved_of m (open_of (terms_of task.now) stack.new.items)) result (begin (terms_of task.now) depth shape.0 from_events (open_of (terms_of task.now) stack.old.items) (span_view before) (event_of event.old)) }
     ensures own { IfErr result (λ e. IsOwn (told_stop e)) }
 {
     if depth == 0 {
-        let_go(event);
         return Err(too_deep(task, stack.as_slice(), before));
     }
     begin(task, stack, shape, depth - 1, before, event)
@@ -64,13 +63,13 @@ pub fn begin<'de>(
     shape: ShapeId,
     depth: usize,
     before: Span,
-    event: ParseEvent<'de>,
+    event: &mut ParseEvent<'de>,
 ) -> Result<Moved<'de>, ReadStop<'de>>
-    ensures exact { Gives told_stop (λ m. moved_of m (open_of (terms_of task.now) stack.new.items)) result (begin (terms_of task.now) (suc depth) shape.0 from_events (open_of (terms_of task.now) stack.old.items) (span_view before) (event_of event.entry)) }
+    ensures exact { Gives told_stop (λ m. moved_of m (open_of (terms_of task.now) stack.new.items)) result (begin (terms_of task.now) (suc depth) shape.0 from_events (open_of (terms_of task.now) stack.old.items) (span_view before) (event_of event.old)) }
     ensures own { IfErr result (λ e. IsOwn (told_stop e)) }
 {
     let mut wanted = Wanted { shape, depth };
-    'parts: while descend(task, stack, &mut wanted, before, &event)? {}
+    'parts: while descend(task, stack, &mut wanted, before, event)? {}
     begin_here(task, stack, wanted, before, event)
 }
 
@@ -96,7 +95,7 @@ fn descend<'de>(
             if wanted.depth == 0 {
                 return Err(too_deep(task, stack.as_slice(), before));
             }
-            open_option(stack)?;
+            open_frame(stack, Frame::Option)?;
             wanted.shape = *part;
             wanted.depth -= 1;
             Ok(true)
@@ -113,13 +112,6 @@ fn descend<'de>(
     }
 }
 
-fn open_option(stack: &mut Vec<Frame<'_>>) -> Result<(), OutOfMemory>
-    ensures { (t : Terms) → OnOk result (open_of t stack.new.items ≡ option ∷ open_of t stack.old.items) }
-{
-    stack.push(Frame::Option)?;
-    Ok(())
-}
-
 /// Begins a value that no part of it stands for.
 #[tactic(auto, using(crate::proofs::Begins::nothing_begins, crate::proofs::Begins::transparent_never, crate::proofs::Begins::tuple_is, crate::proofs::Begins::struct_is))]
 fn begin_here<'de>(
@@ -127,15 +119,15 @@ fn begin_here<'de>(
     stack: &mut Vec<Frame<'de>>,
     wanted: Wanted,
     before: Span,
-    event: ParseEvent<'de>,
+    event: &mut ParseEvent<'de>,
 ) -> Result<Moved<'de>, ReadStop<'de>>
-    requires { inner_in (definition_at (registry task.now.shapes.now) wanted.shape.0) (event_of event) ≡ None }
-    ensures exact { Gives told_stop (λ m. moved_of m (open_of (terms_of task.now) stack.new.items)) result (begin (terms_of task.now) (suc wanted.depth) wanted.shape.0 from_events (open_of (terms_of task.now) stack.old.items) (span_view before) (event_of event.entry)) }
+    requires { inner_in (definition_at (registry task.now.shapes.now) wanted.shape.0) (event_of event.old) ≡ None }
+    ensures exact { Gives told_stop (λ m. moved_of m (open_of (terms_of task.now) stack.new.items)) result (begin (terms_of task.now) (suc wanted.depth) wanted.shape.0 from_events (open_of (terms_of task.now) stack.old.items) (span_view before) (event_of event.old)) }
     ensures own { IfErr result (λ e. IsOwn (told_stop e)) }
 {
     match task.shapes.definition_at(wanted.shape) {
         Some(Def::Scalar(scalar)) => begin_scalar(task, stack, wanted.shape, *scalar, event),
-        Some(Def::Option(_)) => begin_nothing(task, stack, event),
+        Some(Def::Option(_)) => begin_nothing(task, stack),
         Some(Def::Result { ok, err }) => {
             let sides = Sides { ok: *ok, err: *err };
             let part = ResultPart {
@@ -162,10 +154,7 @@ fn begin_here<'de>(
             StructKind::Tuple | StructKind::TupleStruct => begin_tuple(task, stack, wanted, event),
             StructKind::Unit | StructKind::Struct => begin_struct(task, stack, wanted, event),
         },
-        Some(Def::Transparent(_)) => {
-            let_go(event);
-            Err(too_deep(task, stack.as_slice(), before))
-        }
+        Some(Def::Transparent(_)) => { Err(too_deep(task, stack.as_slice(), before)) }
         Some(Def::Set(_)) => Err(unread(task, stack.as_slice(), event)),
         Some(Def::Map { key: _, value: _ }) => Err(unread(task, stack.as_slice(), event)),
         Some(Def::Enum(_)) => Err(unread(task, stack.as_slice(), event)),
@@ -174,9 +163,9 @@ fn begin_here<'de>(
 }
 
 /// A shape that isn't read yet.
-fn unread<'e>(task: &Task<'_, '_>, stack: &[Frame<'_>], event: ParseEvent<'_>) -> ReadStop<'e>
+fn unread<'e>(task: &Task<'_, '_>, stack: &[Frame<'_>], event: &ParseEvent<'_>) -> ReadStop<'e>
     ensures own { IsOwn (told_stop result) }
-    ensures is { IsFault (told_stop result) (fault_in (terms_of task.now) (open_of (terms_of task.now) stack.now) unexpected_token (span_of (event_of event.entry))) }
+    ensures is { IsFault (told_stop result) (fault_in (terms_of task.now) (open_of (terms_of task.now) stack.now) unexpected_token (span_of (event_of event.now))) }
 {
     let span = event.span;
     let unfit = Unfit {
@@ -190,12 +179,10 @@ fn unread<'e>(task: &Task<'_, '_>, stack: &[Frame<'_>], event: ParseEvent<'_>) -
 fn begin_nothing<'de>(
     task: &Task<'_, '_>,
     stack: &mut Vec<Frame<'de>>,
-    event: ParseEvent<'de>,
 ) -> Result<Moved<'de>, ReadStop<'de>>
     ensures exact { Gives told_stop (λ m. moved_of m (open_of (terms_of task.now) stack.new.items)) result (deliver (open_of (terms_of task.now) stack.old.items) none) }
     ensures own { IfErr result (λ e. IsOwn (told_stop e)) }
 {
-    let_go(event);
     deliver(task, stack, Value::None)
 }
 
@@ -206,9 +193,9 @@ fn begin_scalar<'de>(
     stack: &mut Vec<Frame<'de>>,
     shape: ShapeId,
     scalar: ScalarType,
-    event: ParseEvent<'de>,
+    event: &mut ParseEvent<'de>,
 ) -> Result<Moved<'de>, ReadStop<'de>>
-    ensures exact { Gives told_stop (λ m. moved_of m (open_of (terms_of task.now) stack.new.items)) result (begin_scalar (terms_of task.now) (target_of (terms_of task.now) shape.0 (scalar_type_of scalar)) (open_of (terms_of task.now) stack.old.items) (event_of event.entry)) }
+    ensures exact { Gives told_stop (λ m. moved_of m (open_of (terms_of task.now) stack.new.items)) result (begin_scalar (terms_of task.now) (target_of (terms_of task.now) shape.0 (scalar_type_of scalar)) (open_of (terms_of task.now) stack.old.items) (event_of event.old)) }
     ensures own { IfErr result (λ e. IsOwn (told_stop e)) }
 {
     let span = event.span;
@@ -221,7 +208,7 @@ fn begin_scalar<'de>(
                 first: None,
                 value: None,
             };
-            stack.push(Frame::Node(part))?;
+            open_frame(stack, Frame::Node(part))?;
             Ok(Moved::To(Next::Inside))
         }
         Begun::Other(unfit) => Err(unexpected(task, stack.as_slice(), unfit, span)),
@@ -252,15 +239,15 @@ fn begin_result<'de>(
     task: &Task<'_, '_>,
     stack: &mut Vec<Frame<'de>>,
     part: ResultPart,
-    event: ParseEvent<'de>,
+    event: &ParseEvent<'_>,
 ) -> Result<Moved<'de>, ReadStop<'de>>
-    ensures exact { Gives told_stop (λ m. moved_of m (open_of (terms_of task.now) stack.new.items)) result (begin_result (terms_of task.now) (result_of part) (open_of (terms_of task.now) stack.old.items) (event_of event.entry)) }
+    ensures exact { Gives told_stop (λ m. moved_of m (open_of (terms_of task.now) stack.new.items)) result (begin_result (terms_of task.now) (result_of part) (open_of (terms_of task.now) stack.old.items) (event_of event.now)) }
     ensures own { IfErr result (λ e. IsOwn (told_stop e)) }
 {
     let span = event.span;
     match fit_struct_start(Expected::ResultVariantStart, event) {
         Ok(()) => {
-            stack.push(Frame::ResultKey(part))?;
+            open_frame(stack, Frame::ResultKey(part))?;
             Ok(Moved::To(Next::Inside))
         }
         Err(unfit) => Err(unexpected(task, stack.as_slice(), unfit, span)),
@@ -274,9 +261,9 @@ fn begin_items<'de>(
     stack: &mut Vec<Frame<'de>>,
     wanted: Wanted,
     of: ItemsOf,
-    event: ParseEvent<'de>,
+    event: &ParseEvent<'_>,
 ) -> Result<Moved<'de>, ReadStop<'de>>
-    ensures exact { Gives told_stop (λ m. moved_of m (open_of (terms_of task.now) stack.new.items)) result (begin_items (terms_of task.now) (items_begun wanted.shape of wanted.depth) (open_of (terms_of task.now) stack.old.items) (event_of event.entry)) }
+    ensures exact { Gives told_stop (λ m. moved_of m (open_of (terms_of task.now) stack.new.items)) result (begin_items (terms_of task.now) (items_begun wanted.shape of wanted.depth) (open_of (terms_of task.now) stack.old.items) (event_of event.now)) }
     ensures own { IfErr result (λ e. IsOwn (told_stop e)) }
 {
     let span = event.span;
@@ -288,7 +275,7 @@ fn begin_items<'de>(
                 depth: wanted.depth,
                 front: Vec::new(task.alloc),
             };
-            stack.push(Frame::Items(part))?;
+            open_frame(stack, Frame::Items(part))?;
             Ok(Moved::To(Next::Inside))
         }
         Err(unfit) => Err(unexpected(task, stack.as_slice(), unfit, span)),
@@ -308,19 +295,19 @@ fn begin_tuple<'de>(
     task: &Task<'_, '_>,
     stack: &mut Vec<Frame<'de>>,
     wanted: Wanted,
-    event: ParseEvent<'de>,
+    event: &ParseEvent<'_>,
 ) -> Result<Moved<'de>, ReadStop<'de>>
-    ensures exact { Gives told_stop (λ m. moved_of m (open_of (terms_of task.now) stack.new.items)) result (begin_tuple (terms_of task.now) (tuple_begun_at (terms_of task.now) wanted.shape wanted.depth) (open_of (terms_of task.now) stack.old.items) (event_of event.entry)) }
+    ensures exact { Gives told_stop (λ m. moved_of m (open_of (terms_of task.now) stack.new.items)) result (begin_tuple (terms_of task.now) (tuple_begun_at (terms_of task.now) wanted.shape wanted.depth) (open_of (terms_of task.now) stack.old.items) (event_of event.now)) }
     ensures own { IfErr result (λ e. IsOwn (told_stop e)) }
 {
     let span = event.span;
     match fit_tuple(has_no_fields(task, wanted.shape), event) {
         Ok(TupleForm::Sequence) => {
-            stack.push(Frame::Elements(empty_tuple(task, wanted)))?;
+            open_frame(stack, Frame::Elements(empty_tuple(task, wanted)))?;
             Ok(Moved::To(Next::Inside))
         }
         Ok(TupleForm::Object) => {
-            stack.push(Frame::Keyed(empty_tuple(task, wanted)))?;
+            open_frame(stack, Frame::Keyed(empty_tuple(task, wanted)))?;
             Ok(Moved::To(Next::Inside))
         }
         Ok(TupleForm::Nothing) => deliver(task, stack, Value::Struct(Items::new(task.alloc))),
@@ -354,9 +341,9 @@ fn begin_struct<'de>(
     task: &Task<'_, '_>,
     stack: &mut Vec<Frame<'de>>,
     wanted: Wanted,
-    event: ParseEvent<'de>,
+    event: &ParseEvent<'_>,
 ) -> Result<Moved<'de>, ReadStop<'de>>
-    ensures exact { Gives told_stop (λ m. moved_of m (open_of (terms_of task.now) stack.new.items)) result (begin_object (terms_of task.now) (struct_begun_at (terms_of task.now) wanted.shape wanted.depth) (open_of (terms_of task.now) stack.old.items) (event_of event.entry)) }
+    ensures exact { Gives told_stop (λ m. moved_of m (open_of (terms_of task.now) stack.new.items)) result (begin_object (terms_of task.now) (struct_begun_at (terms_of task.now) wanted.shape wanted.depth) (open_of (terms_of task.now) stack.old.items) (event_of event.now)) }
     ensures own { IfErr result (λ e. IsOwn (told_stop e)) }
 {
     let span = event.span;
@@ -367,7 +354,7 @@ fn begin_struct<'de>(
                 depth: wanted.depth,
                 filled: Vec::new(task.alloc),
             };
-            stack.push(Frame::Object(part))?;
+            open_frame(stack, Frame::Object(part))?;
             Ok(Moved::To(Next::Inside))
         }
         Err(unfit) => Err(unexpected(task, stack.as_slice(), unfit, span)),

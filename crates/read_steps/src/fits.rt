@@ -6,7 +6,7 @@ ghost use Rattle.semantics.specs.Reading.{is_nothing};
 ghost use Rattle.read_steps.specs.Fits.{begins_sequence, begins_struct, ends_struct, is_scalar, fit, form_view, tuple_form, goes_on_by, begun_of, begun_view, mark_of, mark_view};
 
 use crate::expected::{Expected, Unfit};
-use crate::key::key_text;
+use crate::key::take_name;
 use event_core::{ContainerKind, ParseEvent, ParseEventKind, ScalarValue};
 use shape_core::Text;
 
@@ -46,38 +46,38 @@ pub enum Mark<'de> {
 }
 
 /// The event has to be the start of a struct.
-pub fn fit_struct_start(expected: Expected, event: ParseEvent<'_>) -> Result<(), Unfit>
-    ensures { is_ok result ≡ begins_struct (event_of event.entry) }
+pub fn fit_struct_start(expected: Expected, event: &ParseEvent<'_>) -> Result<(), Unfit>
+    ensures { is_ok result ≡ begins_struct (event_of event.now) }
 {
-    if begins_struct(&event) {
+    if begins_struct(event) {
         return Ok(());
     }
-    Err(unfit_event(expected, &event))
+    Err(unfit_event(expected, event))
 }
 
 /// The event has to be the end of a struct.
-pub fn fit_struct_end(expected: Expected, event: ParseEvent<'_>) -> Result<(), Unfit>
-    ensures { is_ok result ≡ ends_struct (event_of event.entry) }
+pub fn fit_struct_end(expected: Expected, event: &ParseEvent<'_>) -> Result<(), Unfit>
+    ensures { is_ok result ≡ ends_struct (event_of event.now) }
 {
-    if ends_struct(&event) {
+    if ends_struct(event) {
         return Ok(());
     }
-    Err(unfit_event(expected, &event))
+    Err(unfit_event(expected, event))
 }
 
 /// The event has to be the start of a sequence.
-pub fn fit_sequence_start(expected: Expected, event: ParseEvent<'_>) -> Result<(), Unfit>
-    ensures { is_ok result ≡ begins_sequence (event_of event.entry) }
+pub fn fit_sequence_start(expected: Expected, event: &ParseEvent<'_>) -> Result<(), Unfit>
+    ensures { is_ok result ≡ begins_sequence (event_of event.now) }
 {
-    if begins_sequence(&event) {
+    if begins_sequence(event) {
         return Ok(());
     }
-    Err(no_sequence(expected, &event))
+    Err(no_sequence(expected, event))
 }
 
 /// What begins a tuple, which has no items or some.
-pub fn fit_tuple(empty: bool, event: ParseEvent<'_>) -> Result<TupleForm, Unfit>
-    ensures { fit form_view result ≡ tuple_form empty (event_of event.entry) }
+pub fn fit_tuple(empty: bool, event: &ParseEvent<'_>) -> Result<TupleForm, Unfit>
+    ensures { fit form_view result ≡ tuple_form empty (event_of event.now) }
 {
     let got = event.kind_name();
     match &event.kind {
@@ -105,8 +105,8 @@ pub fn fit_tuple(empty: bool, event: ParseEvent<'_>) -> Result<TupleForm, Unfit>
 }
 
 /// Whether a key comes; the end of an object doesn't go on.
-pub fn fit_any_key(event: ParseEvent<'_>) -> Result<bool, Unfit>
-    ensures { fit (λ more. more) result ≡ goes_on_by (event_of event.entry) }
+pub fn fit_any_key(event: &ParseEvent<'_>) -> Result<bool, Unfit>
+    ensures { fit (λ more. more) result ≡ goes_on_by (event_of event.now) }
 {
     let got = event.kind_name();
     match &event.kind {
@@ -119,45 +119,39 @@ pub fn fit_any_key(event: ParseEvent<'_>) -> Result<bool, Unfit>
     }
 }
 
-/// What the event begins, where this is expected.
-pub fn begin_of<'de>(expected: Expected, event: ParseEvent<'de>) -> Begun<'de>
-    ensures { begun_view result ≡ begun_of (event_of event.entry) }
+/// What the event begins, where this is expected. A scalar is taken out of it.
+pub fn begin_of<'de>(expected: Expected, event: &mut ParseEvent<'de>) -> Begun<'de>
+    ensures { begun_view result ≡ begun_of (event_of event.old) }
 {
     let got = event.kind_name();
-    let ParseEvent {
-        kind,
-        span: _,
-        meta: _,
-    } = event;
-    match kind {
-        ParseEventKind::Scalar(scalar) => Begun::Scalar(scalar),
+    match &mut event.kind {
+        ParseEventKind::Scalar(scalar) => Begun::Scalar(take_scalar(scalar)),
         ParseEventKind::StructStart(_) => Begun::Node,
         _ => Begun::Other(Unfit { got, expected }),
     }
 }
 
-/// What the event is, where an entry may begin.
-pub fn mark_event<'de>(expected: Expected, event: ParseEvent<'de>) -> Mark<'de>
-    ensures { mark_view result ≡ mark_of (event_of event.entry) }
+/// Takes the scalar out of its place.
+fn take_scalar<'de>(scalar: &mut ScalarValue<'de>) -> ScalarValue<'de>
+    ensures { result ≡ scalar.old }
+{
+    std::mem::replace(scalar, ScalarValue::Unit)
+}
+
+/// What the event is, where an entry may begin. The name of a key is taken out of it.
+pub fn mark_event<'de>(expected: Expected, event: &mut ParseEvent<'de>) -> Mark<'de>
+    ensures { mark_view result ≡ mark_of (event_of event.old) }
 {
     let got = event.kind_name();
-    let ParseEvent {
-        kind,
-        span: _,
-        meta: _,
-    } = event;
-    match kind {
+    match &mut event.kind {
         ParseEventKind::StructEnd => Mark::End,
-        ParseEventKind::FieldKey(key) => match key_text(key) {
+        ParseEventKind::FieldKey(key) => match take_name(key) {
             Some(name) => Mark::Name(name),
             None => Mark::Nameless,
         },
         _ => Mark::Elsewhere(Unfit { got, expected }),
     }
 }
-
-/// Lets an event go that was taken.
-pub fn let_go(_event: ParseEvent<'_>) {}
 
 /// Any event, where another one is expected.
 pub fn unfit_event(expected: Expected, event: &ParseEvent<'_>) -> Unfit {

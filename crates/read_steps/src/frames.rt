@@ -1,5 +1,5 @@
 //! What is open while a value is read.
-ghost use Rattle.std.specs.Prelude.{◌≡◌, []};
+ghost use Rattle.std.specs.Prelude.{◌≡◌, ◌∷◌, ◌++◌, [], OnOk};
 ghost use Rattle.laws_reading.specs.Values.{Terms};
 ghost use Rattle.read_steps.specs.Views.{frames_of};
 
@@ -8,7 +8,7 @@ use crate::key::Named;
 use crate::opened::Opened;
 use crate::task::{ItemsOf, Sides};
 use event_core::Span;
-use shape_core::{ScalarType, ShapeId, Value};
+use shape_core::{OutOfMemory, ScalarType, ShapeId, Value};
 use std::alloc::Global;
 
 /// The items of a list or an array so far.
@@ -97,6 +97,9 @@ pub enum Frame<'de> {
     Argument(NodePart<'de>, Span),
 }
 
+// What a level of a value costs while it is open.
+const _: () = prove!(size_of::<Frame<'_>>() <= 128);
+
 /// What comes next, inside all that is open.
 #[derive(Drop)]
 pub enum Next {
@@ -139,4 +142,12 @@ impl<'de> Frames<'de> {
             next: Next::Inside,
         }
     }
+}
+
+/// Opens a frame inside those that are open.
+pub fn open_frame<'de>(stack: &mut Vec<Frame<'de>>, frame: Frame<'de>) -> Result<(), OutOfMemory>
+    ensures { OnOk result (stack.new.items ≡ stack.old.items ++ (frame.entry ∷ [])) }
+{
+    stack.push(frame)?;
+    Ok(())
 }

@@ -1,21 +1,24 @@
 //! The items of lists and arrays.
-ghost use Rattle.std.specs.Prelude.{◌≡◌, map, IfErr};
+ghost use Rattle.std.specs.Prelude.{◌≡◌, map, IfErr, Some};
 ghost use Rattle.semantics.specs.Causes.{ends_sequence};
 ghost use Rattle.semantics_lines.specs.Trees.{list, trees_of};
 ghost use Rattle.shape_types.specs.Trees.{tree_of};
 ghost use Rattle.event_core.specs.Events.{event_of};
 ghost use Rattle.event_core.specs.Metadata.{span_view};
-ghost use Rattle.laws_machine.specs.Steps.{item_step};
+ghost use Rattle.laws_machine.specs.Steps.{step_at};
 ghost use Rattle.read_steps.specs.Refusals.{length_fault_in};
 ghost use Rattle.read_steps.specs.Stepping.{items_done};
 ghost use Rattle.read_steps.specs.Stops.{told_stop, Gives, IsFault, IsOwn};
 ghost use Rattle.read_steps.specs.Tasks.{terms_of};
 ghost use Rattle.read_steps.specs.Views.{open_of, moved_of, items_of};
+ghost use Rattle.read_steps.specs.Kinds.{kind_at};
+ghost use Rattle.read_steps.specs.declared.kind.FrameKind.TheVariants as kinds;
 
 use crate::begin::begin_part;
 use crate::delivery::deliver;
-use crate::fits::{ends_sequence, let_go};
-use crate::frames::{Frame, ItemsPart, Moved};
+use crate::fits::ends_sequence;
+use crate::frames::{Frame, ItemsPart, Moved, open_frame};
+use crate::parts::take_items;
 use crate::refusal::{never, other_length};
 use crate::stop::ReadStop;
 use crate::task::{ItemsOf, Task};
@@ -27,26 +30,25 @@ use shape_core::{Items, ShapeId, Value};
 pub fn step_items<'de>(
     task: &Task<'_, '_>,
     stack: &mut Vec<Frame<'de>>,
-    part: ItemsPart<'de>,
     before: Span,
-    event: ParseEvent<'de>,
+    event: &mut ParseEvent<'de>,
 ) -> Result<Moved<'de>, ReadStop<'de>>
-    ensures exact { Gives told_stop (λ m. moved_of m (open_of (terms_of task.now) stack.new.items)) result (item_step (ends_sequence (event_of event.entry)) (terms_of task.now) (items_of part.entry) (open_of (terms_of task.now) stack.old.items) (span_view before) (event_of event.entry)) }
+    requires { kind_at stack.old.items ≡ Some kinds.Items }
+    ensures exact { Gives told_stop (λ m. moved_of m (open_of (terms_of task.now) stack.new.items)) result (step_at (terms_of task.now) (open_of (terms_of task.now) stack.old.items) (span_view before) (event_of event.old)) }
     ensures own { IfErr result (λ e. IsOwn (told_stop e)) }
 {
-    if ends_sequence(&event) {
+    let part = take_items(stack);
+    if ends_sequence(event) {
         let span = event.span;
-        let_go(event);
         return end_items(task, stack, part, span);
     }
     let at = part.front.len();
     if !part.of.has_room(at) {
-        let_go(event);
         return Err(wrong_length(task, stack.as_slice(), part.shape, part.of, at + 1, before));
     }
     let item = part.of.item;
     let depth = part.depth;
-    stack.push(Frame::Items(part))?;
+    open_frame(stack, Frame::Items(part))?;
     begin_part(task, stack, item, depth, before, event)
 }
 

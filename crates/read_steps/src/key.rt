@@ -20,11 +20,11 @@ pub struct Named<'de> {
     pub span: Span,
 }
 
-/// The name of a key, if it has one.
-pub fn key_text<'de>(key: FieldKey<'de>) -> Option<Text<'de>>
-    ensures { option_map phrase_of result ≡ key_name key.entry }
+/// Takes the name of a key, if it has one, out of its place.
+pub fn take_name<'de>(key: &mut FieldKey<'de>) -> Option<Text<'de>>
+    ensures { option_map phrase_of result ≡ key_name key.old }
 {
-    match key {
+    match std::mem::replace(key, FieldKey::Name(Text::Borrowed(""))) {
         FieldKey::Name(name) => Some(name),
         FieldKey::Full(full) => full.into_inner().name,
     }

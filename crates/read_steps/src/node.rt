@@ -13,14 +13,17 @@ ghost use Rattle.read_steps.specs.Fits.{is_scalar, as_scalar};
 ghost use Rattle.read_steps.specs.Stops.{told_stop, Gives, IsFault, IsOwn};
 ghost use Rattle.read_steps.specs.Tasks.{terms_of};
 ghost use Rattle.read_steps.specs.Views.{open_of, moved_of, node_of};
+ghost use Rattle.read_steps.specs.Kinds.{kind_at};
+ghost use Rattle.read_steps.specs.declared.kind.FrameKind.TheVariants as kinds;
 ghost use Rattle.shape_types.specs.Texts.{text_bytes};
 ghost use Rattle.shape_types.specs.Trees.{tree_of};
 
 use crate::delivery::deliver;
 use crate::expected::{Expected, Unfit};
 use crate::fits::{Begun, Mark, begin_of, is_scalar, mark_event};
-use crate::frames::{Frame, Moved, Next, NodePart};
+use crate::frames::{Frame, Moved, Next, NodePart, open_frame};
 use crate::opened::Opened;
+use crate::parts::{take_argument, take_node};
 use crate::pass::pass_event;
 use crate::refusal::{refusal, unexpected};
 use crate::scalar::set_value;
@@ -34,13 +37,14 @@ use shape_core::{Text, Value};
 pub fn step_node<'de>(
     task: &Task<'_, '_>,
     stack: &mut Vec<Frame<'de>>,
-    part: NodePart<'de>,
     before: Span,
-    event: ParseEvent<'de>,
+    event: &mut ParseEvent<'de>,
 ) -> Result<Moved<'de>, ReadStop<'de>>
-    ensures exact { Gives told_stop (λ m. moved_of m (open_of (terms_of task.now) stack.new.items)) result (step_at (terms_of task.now) (node (node_of (terms_of task.now) part.entry) ∷ open_of (terms_of task.now) stack.old.items) (span_view before) (event_of event.entry)) }
+    requires { kind_at stack.old.items ≡ Some kinds.Node }
+    ensures exact { Gives told_stop (λ m. moved_of m (open_of (terms_of task.now) stack.new.items)) result (step_at (terms_of task.now) (open_of (terms_of task.now) stack.old.items) (span_view before) (event_of event.old)) }
     ensures own { IfErr result (λ e. IsOwn (told_stop e)) }
 {
+    let part = take_node(stack);
     let span = event.span;
     match mark_event(Expected::FieldOrEnd, event) {
         Mark::End => end_node(task, stack, part.value, span),
@@ -81,7 +85,7 @@ fn pass_entry<'de>(
     ensures exact { Gives told_stop (λ m. moved_of m (open_of (terms_of task.now) stack.new.items)) result (Ok (going (passing [] ∷ node (node_of (terms_of task.now) part.entry) ∷ open_of (terms_of task.now) stack.old.items))) }
     ensures own { IfErr result (λ e. IsOwn (told_stop e)) }
 {
-    stack.push(Frame::Node(part))?;
+    open_frame(stack, Frame::Node(part))?;
     Ok(Moved::To(Next::Passed(Opened::new(task.alloc))))
 }
 
@@ -115,7 +119,7 @@ fn step_argument<'de>(
     match part.first {
         Some(first) => Err(second_argument(task, stack.as_slice(), first, span)),
         None => {
-            stack.push(Frame::Argument(part, span))?;
+            open_frame(stack, Frame::Argument(part, span))?;
             Ok(Moved::To(Next::Inside))
         }
     }
@@ -143,18 +147,19 @@ fn second_argument<'e>(
 pub fn step_set<'de>(
     task: &Task<'_, '_>,
     stack: &mut Vec<Frame<'de>>,
-    part: NodePart<'de>,
-    first: Span,
-    event: ParseEvent<'de>,
+    before: Span,
+    event: &mut ParseEvent<'de>,
 ) -> Result<Moved<'de>, ReadStop<'de>>
-    ensures exact { Gives told_stop (λ m. moved_of m (open_of (terms_of task.now) stack.new.items)) result (set_step (event_of event.entry) (terms_of task.now) (node_of (terms_of task.now) part.entry) (span_view first) (open_of (terms_of task.now) stack.old.items)) }
+    requires { kind_at stack.old.items ≡ Some kinds.Argument }
+    ensures exact { Gives told_stop (λ m. moved_of m (open_of (terms_of task.now) stack.new.items)) result (step_at (terms_of task.now) (open_of (terms_of task.now) stack.old.items) (span_view before) (event_of event.old)) }
     ensures own { IfErr result (λ e. IsOwn (told_stop e)) }
 {
-    if is_scalar(&event) {
+    let (part, first) = take_argument(stack);
+    if is_scalar(event) {
         return set_event(task, stack, part, first, event);
     }
     let node = with_argument(part, first, None);
-    stack.push(Frame::Node(node))?;
+    open_frame(stack, Frame::Node(node))?;
     pass_event(task, stack.as_slice(), Opened::new(task.alloc), event)
 }
 
@@ -165,10 +170,10 @@ fn set_event<'de>(
     stack: &mut Vec<Frame<'de>>,
     part: NodePart<'de>,
     first: Span,
-    event: ParseEvent<'de>,
+    event: &mut ParseEvent<'de>,
 ) -> Result<Moved<'de>, ReadStop<'de>>
-    requires { is_scalar (event_of event) ≡ true }
-    ensures exact { Gives told_stop (λ m. moved_of m (open_of (terms_of task.now) stack.new.items)) result (set_step (event_of event.entry) (terms_of task.now) (node_of (terms_of task.now) part.entry) (span_view first) (open_of (terms_of task.now) stack.old.items)) }
+    requires { is_scalar (event_of event.old) ≡ true }
+    ensures exact { Gives told_stop (λ m. moved_of m (open_of (terms_of task.now) stack.new.items)) result (set_step (event_of event.old) (terms_of task.now) (node_of (terms_of task.now) part.entry) (span_view first) (open_of (terms_of task.now) stack.old.items)) }
     ensures own { IfErr result (λ e. IsOwn (told_stop e)) }
 {
     let span = event.span;
@@ -207,7 +212,7 @@ fn set_argument<'de>(
     ) {
         Ok(value) => {
             let node = with_argument(part, first, Some(value));
-            stack.push(Frame::Node(node))?;
+            open_frame(stack, Frame::Node(node))?;
             Ok(Moved::To(Next::Inside))
         }
         Err(stop) => Err(stop),

@@ -15,6 +15,8 @@ ghost use Rattle.read_steps.specs.Stepping.{found_step, place_step, marked_step}
 ghost use Rattle.read_steps.specs.Stops.{told_stop, Gives, IsFault, IsOwn};
 ghost use Rattle.read_steps.specs.Tasks.{terms_of, fields_at};
 ghost use Rattle.read_steps.specs.Views.{open_of, moved_of, struct_of, entered_of};
+ghost use Rattle.read_steps.specs.Kinds.{kind_at};
+ghost use Rattle.read_steps.specs.declared.kind.FrameKind.TheVariants as kinds;
 
 use crate::awaiting::await_next;
 use crate::delivery::deliver;
@@ -23,9 +25,10 @@ use crate::fields::{field_at, place_of};
 use crate::fill::gather;
 use crate::filled::first_key;
 use crate::fits::{Mark, mark_event};
-use crate::frames::{Frame, Moved, Next, StructPart};
+use crate::frames::{Frame, Moved, Next, StructPart, open_frame};
 use crate::key::Named;
 use crate::opened::Opened;
+use crate::parts::take_object;
 use crate::refusal::{never, refusal, unexpected};
 use crate::stop::ReadStop;
 use crate::task::Task;
@@ -37,13 +40,14 @@ use shape_core::{Field, Text};
 pub fn step_object<'de>(
     task: &Task<'_, '_>,
     stack: &mut Vec<Frame<'de>>,
-    part: StructPart<'de>,
     before: Span,
-    event: ParseEvent<'de>,
+    event: &mut ParseEvent<'de>,
 ) -> Result<Moved<'de>, ReadStop<'de>>
-    ensures exact { Gives told_stop (λ m. moved_of m (open_of (terms_of task.now) stack.new.items)) result (step_at (terms_of task.now) (object (struct_of (terms_of task.now) part.entry) ∷ open_of (terms_of task.now) stack.old.items) (span_view before) (event_of event.entry)) }
+    requires { kind_at stack.old.items ≡ Some kinds.Object }
+    ensures exact { Gives told_stop (λ m. moved_of m (open_of (terms_of task.now) stack.new.items)) result (step_at (terms_of task.now) (open_of (terms_of task.now) stack.old.items) (span_view before) (event_of event.old)) }
     ensures own { IfErr result (λ e. IsOwn (told_stop e)) }
 {
+    let part = take_object(stack);
     task.shapes.rules();
     let span = event.span;
     match mark_event(Expected::KeyOrEnd, event) {
@@ -79,7 +83,7 @@ fn pass_entry<'de>(
     ensures exact { Gives told_stop (λ m. moved_of m (open_of (terms_of task.now) stack.new.items)) result (Ok (going (passing [] ∷ object (struct_of (terms_of task.now) part.entry) ∷ open_of (terms_of task.now) stack.old.items))) }
     ensures own { IfErr result (λ e. IsOwn (told_stop e)) }
 {
-    stack.push(Frame::Object(part))?;
+    open_frame(stack, Frame::Object(part))?;
     Ok(Moved::To(Next::Passed(Opened::new(task.alloc))))
 }
 
@@ -132,7 +136,7 @@ fn step_field<'de>(
         None => {
             let depth = part.depth;
             let span = key.span;
-            stack.push(Frame::Field(part, key))?;
+            open_frame(stack, Frame::Field(part, key))?;
             await_next(task, stack.as_slice(), field.shape, depth, span)
         }
     }

@@ -8,20 +8,23 @@ ghost use Rattle.event_core.specs.Events.{event_of};
 ghost use Rattle.event_core.specs.Keys.{key_name};
 ghost use Rattle.event_core.specs.Metadata.{span_view};
 ghost use Rattle.laws_reading.specs.Options.{side_in, outcome};
-ghost use Rattle.laws_machine.specs.Steps.{side_step, close_step};
+ghost use Rattle.laws_machine.specs.Steps.{step_at};
 ghost use Rattle.laws_machine.specs.Delivery.{deliver};
 ghost use Rattle.read_steps.specs.Fits.{fit, named_side};
 ghost use Rattle.read_steps.specs.Refusals.{fault_in};
 ghost use Rattle.read_steps.specs.Stops.{told_stop, Gives, IsFault, IsOwn};
 ghost use Rattle.read_steps.specs.Tasks.{terms_of};
 ghost use Rattle.read_steps.specs.Views.{open_of, moved_of, result_of};
+ghost use Rattle.read_steps.specs.Kinds.{kind_at};
+ghost use Rattle.read_steps.specs.declared.kind.FrameKind.TheVariants as kinds;
 
 use crate::awaiting::await_next;
 use crate::delivery::deliver;
 use crate::expected::{Expected, Unfit};
 use crate::fits::fit_struct_end;
-use crate::frames::{Frame, Moved, ResultPart};
-use crate::key::key_text;
+use crate::frames::{Frame, Moved, open_frame};
+use crate::key::take_name;
+use crate::parts::{take_result_end, take_result_key};
 use crate::refusal::{refusal, unexpected};
 use crate::stop::ReadStop;
 use crate::task::Task;
@@ -42,16 +45,18 @@ pub enum NoSide<'de> {
 pub fn step_side<'de>(
     task: &Task<'_, '_>,
     stack: &mut Vec<Frame<'de>>,
-    part: ResultPart,
-    event: ParseEvent<'de>,
+    before: Span,
+    event: &mut ParseEvent<'de>,
 ) -> Result<Moved<'de>, ReadStop<'de>>
-    ensures exact { Gives told_stop (λ m. moved_of m (open_of (terms_of task.now) stack.new.items)) result (side_step (side_in (event_of event.entry)) (terms_of task.now) (result_of part) (open_of (terms_of task.now) stack.old.items) (span_of (event_of event.entry))) }
+    requires { kind_at stack.old.items ≡ Some kinds.ResultKey }
+    ensures exact { Gives told_stop (λ m. moved_of m (open_of (terms_of task.now) stack.new.items)) result (step_at (terms_of task.now) (open_of (terms_of task.now) stack.old.items) (span_view before) (event_of event.old)) }
     ensures own { IfErr result (λ e. IsOwn (told_stop e)) }
 {
+    let part = take_result_key(stack);
     let span = event.span;
     match fit_side(event) {
         Ok(ok) => {
-            stack.push(Frame::ResultSide(part, ok))?;
+            open_frame(stack, Frame::ResultSide(part, ok))?;
             await_next(
                 task,
                 stack.as_slice(),
@@ -69,13 +74,14 @@ pub fn step_side<'de>(
 pub fn step_end<'de>(
     task: &Task<'_, '_>,
     stack: &mut Vec<Frame<'de>>,
-    ok: bool,
-    held: Value<'de>,
-    event: ParseEvent<'de>,
+    before: Span,
+    event: &ParseEvent<'_>,
 ) -> Result<Moved<'de>, ReadStop<'de>>
-    ensures exact { Gives told_stop (λ m. moved_of m (open_of (terms_of task.now) stack.new.items)) result (close_step (event_of event.entry) (terms_of task.now) ok (tree_of held.entry) (open_of (terms_of task.now) stack.old.items)) }
+    requires { kind_at stack.old.items ≡ Some kinds.ResultEnd }
+    ensures exact { Gives told_stop (λ m. moved_of m (open_of (terms_of task.now) stack.new.items)) result (step_at (terms_of task.now) (open_of (terms_of task.now) stack.old.items) (span_view before) (event_of event.now)) }
     ensures own { IfErr result (λ e. IsOwn (told_stop e)) }
 {
+    let (ok, held) = take_result_end(stack);
     let span = event.span;
     match fit_struct_end(Expected::ResultVariantEnd, event) {
         Ok(()) => end_result(task, stack, ok, held),
@@ -112,16 +118,11 @@ fn outcome<'de>(alloc: Global, ok: bool, value: Value<'de>) -> Result<Value<'de>
 
 /// Whether a result went well, by its key.
 #[tactic(auto, using(crate::proofs::Results::side_named))]
-fn fit_side<'de>(event: ParseEvent<'de>) -> Result<bool, NoSide<'de>>
-    ensures { fit (λ ok. ok) result ≡ side_in (event_of event.entry) }
+fn fit_side<'de>(event: &mut ParseEvent<'de>) -> Result<bool, NoSide<'de>>
+    ensures { fit (λ ok. ok) result ≡ side_in (event_of event.old) }
 {
     let got = event.kind_name();
-    let ParseEvent {
-        kind,
-        span: _,
-        meta: _,
-    } = event;
-    match kind {
+    match &mut event.kind {
         ParseEventKind::FieldKey(key) => named_side(key),
         _ => Err(NoSide::Unfit(Unfit {
             got,
@@ -130,10 +131,10 @@ fn fit_side<'de>(event: ParseEvent<'de>) -> Result<bool, NoSide<'de>>
     }
 }
 
-fn named_side<'de>(key: FieldKey<'de>) -> Result<bool, NoSide<'de>>
-    ensures { fit (λ ok. ok) result ≡ named_side (key_name key.entry) }
+fn named_side<'de>(key: &mut FieldKey<'de>) -> Result<bool, NoSide<'de>>
+    ensures { fit (λ ok. ok) result ≡ named_side (key_name key.old) }
 {
-    match key_text(key) {
+    match take_name(key) {
         Some(name) => side_of(name),
         None => Err(NoSide::Unfit(Unfit {
             got: "unit key",

@@ -7,7 +7,6 @@ ghost use Rattle.read_steps.specs.Stops.{told_stop, Gives, IsOwn};
 ghost use Rattle.read_steps.specs.Tasks.{terms_of};
 ghost use Rattle.read_steps.specs.Views.{open_of, moved_of};
 
-use crate::fits::let_go;
 use crate::frames::{Frame, Moved, Next};
 use crate::opened::{NotPassed, Opened};
 use crate::refusal::unexpected;
@@ -21,15 +20,14 @@ pub fn pass_event<'de>(
     task: &Task<'_, '_>,
     stack: &[Frame<'_>],
     opened: Opened,
-    event: ParseEvent<'_>,
+    event: &ParseEvent<'_>,
 ) -> Result<Moved<'de>, ReadStop<'de>>
-    ensures exact { Gives told_stop (λ m. moved_of m (open_of (terms_of task.now) stack.now)) result (pass_step (terms_of task.now) (opened_of opened) (open_of (terms_of task.now) stack.now) (event_of event.entry)) }
+    ensures exact { Gives told_stop (λ m. moved_of m (open_of (terms_of task.now) stack.now)) result (pass_step (terms_of task.now) (opened_of opened) (open_of (terms_of task.now) stack.now) (event_of event.now)) }
     ensures own { IfErr result (λ e. IsOwn (told_stop e)) }
 {
     let mut opened = opened;
     let span = event.span;
-    let passed = opened.pass(&event);
-    let_go(event);
+    let passed = opened.pass(event);
     match passed {
         Ok(true) => Ok(Moved::To(Next::Passed(opened))),
         Ok(false) => Ok(Moved::To(Next::Inside)),

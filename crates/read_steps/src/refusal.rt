@@ -15,7 +15,7 @@ use crate::frames::Frame;
 use crate::path::path_to;
 use crate::stop::ReadStop;
 use crate::task::Task;
-use event_core::{DeserializeErrorKind, Path, ReflectErrorKind, Span};
+use event_core::{DeserializeError, DeserializeErrorKind, Path, ReflectErrorKind, Span};
 use shape_core::{Name, OutOfMemory, ShapeId, ShapeName, Text};
 
 /// A fault at a place of the input, of what is read inside these frames.
@@ -29,9 +29,19 @@ pub fn refusal<'e>(
     ensures is { IsFault (told_stop result) (fault_in (terms_of task.now) (open_of (terms_of task.now) stack.now) (fault_kind_of kind.entry) (span_view span)) }
 {
     match path_to(task, stack) {
-        Ok(path) => ReadStop::fault(task.alloc, kind.with_span(span).set_path(path)),
-        Err(_) => ReadStop::Alloc,
+        Ok(path) => ReadStop::fault(task.alloc, placed(kind, span, path)),
+        Err(_) => {
+            drop(kind);
+            ReadStop::Alloc
+        }
     }
+}
+
+/// A fault at a place of the input, at this path.
+fn placed<'e>(kind: DeserializeErrorKind<'e>, span: Span, path: Path<'e>) -> DeserializeError<'e>
+    ensures { result ≡ record { span = Some span; path = Some path.entry; kind = kind.entry } }
+{
+    kind.with_span(span).set_path(path)
 }
 
 /// An event that can't stand there.

@@ -10,9 +10,9 @@ ghost use Rattle.read_steps.specs.Tasks.{terms_of};
 ghost use Rattle.read_steps.specs.Views.{frames_of, next_in, open_of, moved_of};
 
 use crate::begin::begin;
-use crate::fits::let_go;
 use crate::frames::{Frame, Frames, Moved, Next};
 use crate::items::step_items;
+use crate::kind::{FrameKind, innermost};
 use crate::node::{step_node, step_set};
 use crate::object::step_object;
 use crate::outcome::{step_end, step_side};
@@ -38,9 +38,9 @@ pub fn step<'de>(
     task: &Task<'_, '_>,
     frames: &mut Frames<'de>,
     before: Span,
-    event: ParseEvent<'de>,
+    event: &mut ParseEvent<'de>,
 ) -> Result<Status<'de>, ReadStop<'de>>
-    ensures exact { Gives told_stop (λ s. status_of s (frames_of (terms_of task.now) frames.new)) result (step_at (terms_of task.now) (frames_of (terms_of task.now) frames.old) (span_view before) (event_of event.entry)) }
+    ensures exact { Gives told_stop (λ s. status_of s (frames_of (terms_of task.now) frames.new)) result (step_at (terms_of task.now) (frames_of (terms_of task.now) frames.old) (span_view before) (event_of event.old)) }
     ensures own { IfErr result (λ e. IsOwn (told_stop e)) }
 {
     let next = std::mem::replace(&mut frames.next, Next::Inside);
@@ -60,9 +60,9 @@ fn step_next<'de>(
     stack: &mut Vec<Frame<'de>>,
     next: Next,
     before: Span,
-    event: ParseEvent<'de>,
+    event: &mut ParseEvent<'de>,
 ) -> Result<Moved<'de>, ReadStop<'de>>
-    ensures exact { Gives told_stop (λ m. moved_of m (open_of (terms_of task.now) stack.new.items)) result (step_at (terms_of task.now) (next_in next (open_of (terms_of task.now) stack.old.items)) (span_view before) (event_of event.entry)) }
+    ensures exact { Gives told_stop (λ m. moved_of m (open_of (terms_of task.now) stack.new.items)) result (step_at (terms_of task.now) (next_in next (open_of (terms_of task.now) stack.old.items)) (span_view before) (event_of event.old)) }
     ensures own { IfErr result (λ e. IsOwn (told_stop e)) }
 {
     match next {
@@ -77,33 +77,20 @@ fn step_inside<'de>(
     task: &Task<'_, '_>,
     stack: &mut Vec<Frame<'de>>,
     before: Span,
-    event: ParseEvent<'de>,
+    event: &mut ParseEvent<'de>,
 ) -> Result<Moved<'de>, ReadStop<'de>>
-    ensures exact { Gives told_stop (λ m. moved_of m (open_of (terms_of task.now) stack.new.items)) result (step_at (terms_of task.now) (open_of (terms_of task.now) stack.old.items) (span_view before) (event_of event.entry)) }
+    ensures exact { Gives told_stop (λ m. moved_of m (open_of (terms_of task.now) stack.new.items)) result (step_at (terms_of task.now) (open_of (terms_of task.now) stack.old.items) (span_view before) (event_of event.old)) }
     ensures own { IfErr result (λ e. IsOwn (told_stop e)) }
 {
-    match stack.pop() {
-        Some(Frame::Items(part)) => step_items(task, stack, part, before, event),
-        Some(Frame::Object(part)) => step_object(task, stack, part, before, event),
-        Some(Frame::Elements(part)) => step_elements(task, stack, part, before, event),
-        Some(Frame::Keyed(part)) => step_keyed(task, stack, part, event),
-        Some(Frame::ResultKey(part)) => step_side(task, stack, part, event),
-        Some(Frame::ResultEnd(ok, held)) => step_end(task, stack, ok, held, event),
-        Some(Frame::Node(part)) => step_node(task, stack, part, before, event),
-        Some(Frame::Argument(part, first)) => step_set(task, stack, part, first, event),
-        Some(Frame::Option) => Err(lost(task, event)),
-        Some(Frame::KeyedItem(_)) => Err(lost(task, event)),
-        Some(Frame::Field(_, _)) => Err(lost(task, event)),
-        Some(Frame::ResultSide(_, _)) => Err(lost(task, event)),
-        None => Err(lost(task, event)),
+    match innermost(stack.as_slice()) {
+        Some(FrameKind::Items) => step_items(task, stack, before, event),
+        Some(FrameKind::Object) => step_object(task, stack, before, event),
+        Some(FrameKind::Elements) => step_elements(task, stack, before, event),
+        Some(FrameKind::Keyed) => step_keyed(task, stack, before, event),
+        Some(FrameKind::ResultKey) => step_side(task, stack, before, event),
+        Some(FrameKind::ResultEnd) => step_end(task, stack, before, event),
+        Some(FrameKind::Node) => step_node(task, stack, before, event),
+        Some(FrameKind::Argument) => step_set(task, stack, before, event),
+        _ => Err(no_step(task)),
     }
-}
-
-/// No frame that an event comes to.
-fn lost<'e>(task: &Task<'_, '_>, event: ParseEvent<'_>) -> ReadStop<'e>
-    ensures own { IsOwn (told_stop result) }
-    ensures is { Gives {Y = MachineStatus} told_stop (λ s. s) (Err result) no_step }
-{
-    let_go(event);
-    no_step(task)
 }

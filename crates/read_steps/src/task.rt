@@ -19,6 +19,8 @@ pub struct Task<'s, 'v> {
     pub limit: usize,
     /// Whether texts that are borrowed from the input stay borrowed.
     pub borrow: bool,
+    /// Whether the parser tells by its events what its values are.
+    pub describes_itself: bool,
 }
 
 /// The shapes of both sides of a result.

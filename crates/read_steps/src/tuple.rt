@@ -1,21 +1,24 @@
 //! The items of tuples.
-ghost use Rattle.std.specs.Prelude.{◌≡◌, length, slice_get, Err, IfErr};
+ghost use Rattle.std.specs.Prelude.{◌≡◌, length, slice_get, Err, IfErr, Some};
 ghost use Rattle.semantics.specs.Causes.{ends_sequence};
 ghost use Rattle.event_core.specs.Events.{event_of};
 ghost use Rattle.event_core.specs.Metadata.{span_view};
 ghost use Rattle.laws_machine.specs.Delivery.{Status};
-ghost use Rattle.laws_machine.specs.Steps.{too_many, element_step, keyed_in, keyed_step, tuple_step};
+ghost use Rattle.laws_machine.specs.Steps.{too_many, keyed_in, tuple_step, step_at};
 ghost use Rattle.read_steps.specs.Stops.{told_stop, Gives, IsOwn};
 ghost use Rattle.read_steps.specs.Tasks.{terms_of};
 ghost use Rattle.read_steps.specs.Views.{open_of, moved_of, tuple_of};
+ghost use Rattle.read_steps.specs.Kinds.{kind_at};
+ghost use Rattle.read_steps.specs.declared.kind.FrameKind.TheVariants as kinds;
 
 use crate::awaiting::await_next;
 use crate::begin::begin_part;
 use crate::delivery::deliver;
 use crate::fields::{field_at, fields_count};
 use crate::fill::{fill_items, structure};
-use crate::fits::{ends_sequence, fit_any_key, let_go};
-use crate::frames::{Frame, Moved, TuplePart};
+use crate::fits::{ends_sequence, fit_any_key};
+use crate::frames::{Frame, Moved, TuplePart, open_frame};
+use crate::parts::{take_elements, take_keyed};
 use crate::refusal::{too_many, unexpected};
 use crate::stop::ReadStop;
 use crate::task::Task;
@@ -26,28 +29,25 @@ use shape_core::{Items, Value};
 pub fn step_elements<'de>(
     task: &Task<'_, '_>,
     stack: &mut Vec<Frame<'de>>,
-    part: TuplePart<'de>,
     before: Span,
-    event: ParseEvent<'de>,
+    event: &mut ParseEvent<'de>,
 ) -> Result<Moved<'de>, ReadStop<'de>>
-    ensures exact { Gives told_stop (λ m. moved_of m (open_of (terms_of task.now) stack.new.items)) result (element_step (ends_sequence (event_of event.entry)) (terms_of task.now) (tuple_of (terms_of task.now) part.entry) (open_of (terms_of task.now) stack.old.items) (span_view before) (event_of event.entry)) }
+    requires { kind_at stack.old.items ≡ Some kinds.Elements }
+    ensures exact { Gives told_stop (λ m. moved_of m (open_of (terms_of task.now) stack.new.items)) result (step_at (terms_of task.now) (open_of (terms_of task.now) stack.old.items) (span_view before) (event_of event.old)) }
     ensures own { IfErr result (λ e. IsOwn (told_stop e)) }
 {
-    if ends_sequence(&event) {
+    let part = take_elements(stack);
+    if ends_sequence(event) {
         let span = event.span;
-        let_go(event);
         return end_tuple(task, stack, part, span);
     }
     match field_at(task.shapes, part.shape, part.front.len()) {
         Some(field) => {
             let depth = part.depth;
-            stack.push(Frame::Elements(part))?;
+            open_frame(stack, Frame::Elements(part))?;
             begin_part(task, stack, field.shape, depth, before, event)
         }
-        None => {
-            let_go(event);
-            Err(past_end(task, stack.as_slice(), &part, before))
-        }
+        None => { Err(past_end(task, stack.as_slice(), &part, before)) }
     }
 }
 
@@ -56,12 +56,14 @@ pub fn step_elements<'de>(
 pub fn step_keyed<'de>(
     task: &Task<'_, '_>,
     stack: &mut Vec<Frame<'de>>,
-    part: TuplePart<'de>,
-    event: ParseEvent<'de>,
+    before: Span,
+    event: &ParseEvent<'_>,
 ) -> Result<Moved<'de>, ReadStop<'de>>
-    ensures exact { Gives told_stop (λ m. moved_of m (open_of (terms_of task.now) stack.new.items)) result (keyed_step (event_of event.entry) (terms_of task.now) (tuple_of (terms_of task.now) part.entry) (open_of (terms_of task.now) stack.old.items)) }
+    requires { kind_at stack.old.items ≡ Some kinds.Keyed }
+    ensures exact { Gives told_stop (λ m. moved_of m (open_of (terms_of task.now) stack.new.items)) result (step_at (terms_of task.now) (open_of (terms_of task.now) stack.old.items) (span_view before) (event_of event.now)) }
     ensures own { IfErr result (λ e. IsOwn (told_stop e)) }
 {
+    let part = take_keyed(stack);
     let span = event.span;
     match fit_any_key(event) {
         Ok(true) => step_item(task, stack, part, span),
@@ -83,7 +85,7 @@ fn step_item<'de>(
     match field_at(task.shapes, part.shape, part.front.len()) {
         Some(field) => {
             let depth = part.depth;
-            stack.push(Frame::KeyedItem(part))?;
+            open_frame(stack, Frame::KeyedItem(part))?;
             await_next(task, stack.as_slice(), field.shape, depth, span)
         }
         None => Err(past_end(task, stack.as_slice(), &part, span)),

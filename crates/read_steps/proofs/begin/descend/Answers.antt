@@ -10,12 +10,14 @@ use Rattle.laws_machine.specs.Begins.{begin}
 use Rattle.laws_machine.specs.Frames.{Frames}
 use Rattle.read_steps.specs.Tasks.{terms_of}
 use Rattle.read_steps.specs.Views.{open_of}
+use Rattle.read_steps.specs.declared.frames.Frame.TheVariants as frame
 use Rattle.read_steps.proofs.Begins.{descend_option}
+use Rattle.read_steps.proofs.Pushes.{pushed}
 use Rattle.read_steps.proofs.begin.descend.Goals as goal
 
-pub returns-in_ok-open_option-in-Some-Option-clause-goes :
-    goal.returns-in_ok-open_option-in-Some-Option-clause-goes
-returns-in_ok-open_option-in-Some-Option-clause-goes c =
+pub returns-in_ok-open_frame-in-Some-Option-clause-goes :
+    goal.returns-in_ok-open_frame-in-Some-Option-clause-goes
+returns-in_ok-open_frame-in-Some-Option-clause-goes c =
     let t = terms_of c.args.task.now in
     let e = event_of c.args.event.now in
     let before = span_view c.args.before in
@@ -26,5 +28,5 @@ returns-in_ok-open_option-in-Some-Option-clause-goes c =
     let is : definition_at t.setting.registry s ≡ Some (option_shape i) = sym c.in-Some-Option.ensures ∙ ap (λ (d : Def). Some (definition_of d)) c.in-Some-Option.field-0-is in
     let held : is_nothing_event e ≡ false = sym c.is_nothing_event.ensures ∙ c.if-is_nothing_event.false in
     let some : 0 < n = omega arith in
-    ap (λ (gs : Frames). begin t (suc (n - 1)) i from_events gs before e) (c.in_ok-open_option-in-Some-Option.ensures t)
+    ap (λ (gs : Frames). begin t (suc (n - 1)) i from_events gs before e) (pushed t c.args.stack.now.items c.open_frame.new.stack.items frame.Option c.in_ok-open_frame-in-Some-Option.ensures)
     ∙ sym (descend_option t e s i fs before n is held some)

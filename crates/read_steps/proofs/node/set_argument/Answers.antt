@@ -26,4 +26,4 @@ returns-in-Ok-clause-exact c =
     ap (λ (xs : List Frame). set xs >>= set_in (node_of t c.args.part) (span_view c.args.first) fs) (sym c.as_slice.ensures.value)
     ∙ ap (λ (r : Result (Tree × Input) Fault). r >>= set_in (node_of t c.args.part) (span_view c.args.first) fs) c.in-Ok.ensures.exact
     ∙ ap (λ (p : NodePart). Ok (going (node p ∷ fs))) (sym (c.with_argument-node.ensures t))
-    ∙ ap (λ (gs : Frames). Ok (going gs)) (sym (pushed t c.args.stack.now.items c.push.new.self.items (frame.Node c.with_argument-node.result) c.in_ok-push-in-Ok.ensures.items))
+    ∙ ap (λ (gs : Frames). Ok (going gs)) (sym (pushed t c.args.stack.now.items c.open_frame.new.stack.items (frame.Node c.with_argument-node.result) c.in_ok-open_frame-in-Ok.ensures))
