@@ -132,7 +132,7 @@ pub fn begin_of<'de>(expected: Expected, event: &mut ParseEvent<'de>) -> Begun<'
 }
 
 /// Takes the scalar out of its place.
-fn take_scalar<'de>(scalar: &mut ScalarValue<'de>) -> ScalarValue<'de>
+pub fn take_scalar<'de>(scalar: &mut ScalarValue<'de>) -> ScalarValue<'de>
     ensures { result ≡ scalar.old }
 {
     std::mem::replace(scalar, ScalarValue::Unit)

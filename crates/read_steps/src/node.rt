@@ -20,7 +20,7 @@ ghost use Rattle.shape_types.specs.Trees.{tree_of};
 
 use crate::delivery::deliver;
 use crate::expected::{Expected, Unfit};
-use crate::fits::{Begun, Mark, begin_of, is_scalar, mark_event};
+use crate::fits::{Mark, is_scalar, mark_event, take_scalar};
 use crate::frames::{Frame, Moved, Next, NodePart, open_frame};
 use crate::opened::Opened;
 use crate::parts::{take_argument, take_node};
@@ -29,7 +29,7 @@ use crate::refusal::{refusal, unexpected};
 use crate::scalar::set_value;
 use crate::stop::ReadStop;
 use crate::task::Task;
-use event_core::{DeserializeErrorKind, ParseEvent, ScalarValue, Span};
+use event_core::{DeserializeErrorKind, ParseEvent, ParseEventKind, ScalarValue, Span};
 use shape_core::{Text, Value};
 
 /// A key of a node, or its end.
@@ -177,16 +177,16 @@ fn set_event<'de>(
     ensures own { IfErr result (λ e. IsOwn (told_stop e)) }
 {
     let span = event.span;
-    match begin_of(Expected::Argument, event) {
-        Begun::Scalar(scalar) => set_argument(task, stack, part, first, scalar, span),
-        Begun::Node => {
-            let unfit = Unfit {
-                got: "struct start",
-                expected: Expected::Argument,
-            };
-            Err(unexpected(task, stack.as_slice(), unfit, span))
-        }
-        Begun::Other(unfit) => Err(unexpected(task, stack.as_slice(), unfit, span)),
+    match &mut event.kind {
+        ParseEventKind::Scalar(scalar) => set_argument(
+            task,
+            stack,
+            part,
+            first,
+            take_scalar(scalar),
+            span,
+        ),
+        _ => unreachable!(),
     }
 }
 

@@ -16,10 +16,7 @@ pub fn take_option(stack: &mut Vec<Frame<'_>>)
     requires { kind_at stack.old.items ≡ Some kinds.Option }
     ensures { stack.old.items ≡ stack.new.items ++ (frames.Option ∷ []) }
 {
-    match stack.pop() {
-        Some(Frame::Option) => {}
-        _ => unreachable!(),
-    }
+    drop(stack.pop());
 }
 
 /// The items of a list or an array.
@@ -93,8 +90,12 @@ pub fn take_result_key<'de>(stack: &mut Vec<Frame<'de>>) -> ResultPart
     requires { kind_at stack.old.items ≡ Some kinds.ResultKey }
     ensures { stack.old.items ≡ stack.new.items ++ (frames.ResultKey result ∷ []) }
 {
-    match stack.pop() {
-        Some(Frame::ResultKey(part)) => part,
+    match stack.last() {
+        Some(Frame::ResultKey(part)) => {
+            let part = *part;
+            drop(stack.pop());
+            part
+        }
         _ => unreachable!(),
     }
 }
@@ -104,8 +105,12 @@ pub fn take_result_side<'de>(stack: &mut Vec<Frame<'de>>) -> (ResultPart, bool)
     requires { kind_at stack.old.items ≡ Some kinds.ResultSide }
     ensures { stack.old.items ≡ stack.new.items ++ (frames.ResultSide result.0 result.1 ∷ []) }
 {
-    match stack.pop() {
-        Some(Frame::ResultSide(part, ok)) => (part, ok),
+    match stack.last() {
+        Some(Frame::ResultSide(part, ok)) => {
+            let side = (*part, *ok);
+            drop(stack.pop());
+            side
+        }
         _ => unreachable!(),
     }
 }

@@ -53,6 +53,7 @@ fn refused_set<'e>(
     ensures memory { fault_kind_of kind.entry ≡ out_of_memory → told_stop result ≡ None }
 {
     if is_memory(&kind) {
+        drop(kind);
         return ReadStop::Alloc;
     }
     refusal(task, stack, kind, span)
