@@ -1,11 +1,11 @@
 -- Events that were taken, one by one.
-use Rattle.std.proofs.Common.{◌≡◌, ℕ, zero, suc, ◌<◌, List, [], ◌∷◌, length, map, Bool, true, false, Option, Some, None, Result, Ok, Err, refl, sym, ap, ◌∙◌, arith}
+use Rattle.std.proofs.Common.{◌≡◌, ℕ, zero, suc, ◌<◌, List, [], ◌∷◌, length, map, Bool, Option, Some, None, Ok, refl, ap, arith}
 use Rattle.std.specs.Prelude.{IsTrue, IsSome}
 use Rattle.std.specs.Option.{option_map}
 use Rattle.semantics_lines.specs.Texts.{Phrase}
 use Rattle.semantics_lines.specs.Events.{Span, Metadata, Note, key_note, Event, span_of}
 use Rattle.shape_types.specs.Texts.{phrase_of}
-use Rattle.semantics_lines.specs.Faults.{Step, Fault, Coming}
+use Rattle.semantics_lines.specs.Faults.{Coming}
 use Rattle.event_core.specs.Events.{event_of, event_from}
 use Rattle.event_core.specs.Keys.{key_of, full_key}
 use Rattle.event_core.specs.Metadata.{span_view, metadata_of, note_view}
@@ -17,7 +17,7 @@ use Rattle.event_core.specs.declared.key.FieldKey.{FieldKey}
 use Rattle.event_core.specs.declared.key.FieldKey.TheVariants as keys
 use Rattle.event_core.specs.declared.span.Span.{Span as DeclaredSpan}
 use Rattle.format_traits.specs.Parsing.{Parsing, before}
-use Rattle.laws_reading.specs.Input.{Input, ◌>>=◌, feed, taken_at, peeked_of}
+use Rattle.laws_reading.specs.Input.{Input, feed, taken_at}
 use Rattle.format_read.specs.Seats.{Owner, fed, coming_by, told_or_nothing, seat_of, IsLeft}
 use Rattle.format_read.proofs.Seats.{ahead_of, left_by, took_ahead}
 

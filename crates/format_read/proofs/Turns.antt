@@ -1,7 +1,6 @@
 -- The loop over the events, in the words of the machine.
 use Rattle.std.proofs.Common.{◌≡◌, ◌⊎◌, inl, inr, ◌<◌, ℕ, zero, suc, List, [], ◌∷◌, length, slice_get, map, Bool, true, false, cond, Option, Some, None, Result, Ok, Err, refl, sym, ◌∙◌, ap, subst, arith}
 use Rattle.std.specs.Prelude.{IsTrue, IsSome}
-use Rattle.std.specs.Option.{option_copied}
 use Rattle.semantics_lines.specs.Trees.{Tree}
 use Rattle.semantics_lines.specs.Events.{Span, Event, span_of}
 use Rattle.semantics_lines.specs.Faults.{bug, Fault, Ending, ends, stops, Coming}
@@ -19,19 +18,17 @@ use Rattle.event_core.specs.declared.event.ParseEvent.{ParseEvent}
 use Rattle.event_core.specs.declared.span.Span.{Span as DeclaredSpan}
 use Rattle.format_traits.specs.Parsing.{Parsing, before}
 use Rattle.laws_reading.specs.Input.{Input, feed, ◌>>=◌, taken_at}
-use Rattle.laws_reading.specs.Values.{Terms, reading}
+use Rattle.laws_reading.specs.Values.{Terms}
 use Rattle.laws_machine.specs.Frames.{Frames}
-use Rattle.laws_machine.specs.Delivery.{Status, going, complete}
+use Rattle.laws_machine.specs.Delivery.{Status, going}
 use Rattle.laws_machine.specs.Begins.{await}
 use Rattle.laws_machine.specs.Steps.{step_at}
 use Rattle.laws_machine.specs.Machine.{run, on, machine}
 use Rattle.laws_machine.specs.Leaves.{leaves, FaultsStand}
-use Rattle.laws_machine.specs.Laws.{MachineReads}
-use Rattle.read_steps.specs.Stops.{IsFault, Fails, Gives}
+use Rattle.read_steps.specs.Stops.{IsFault, Fails}
 use Rattle.format_read.specs.Seats.{Owner, fed, coming_by, told_or_nothing, seat_of}
-use Rattle.format_read.specs.Taking.{told_parse, IsToldAs, Faulted, HasNext, NothingComes}
+use Rattle.format_read.specs.Taking.{told_parse, IsToldAs, Faulted, NothingComes}
 use Rattle.format_read.specs.Turning.{status_by, with_input, turn_at, IsAdmitted, StandsAt}
-use Rattle.format_read.proofs.Seats.{ahead_of}
 use Rattle.format_read.proofs.Taken.{stands}
 
 stepped : (t : Terms) (r : Result Status Fault) (rest : Input) → (r >>= on t rest) ≡ ((r >>= with_input rest) >>= λ x. on t x.1 x.0)

@@ -1,5 +1,5 @@
 -- What a deserializer answers, in the words of the definitions.
-use Rattle.std.specs.Prelude.{◌≡◌, ◌⊎◌, ℕ, Bool, true, List, [], ◌∷◌, ◌++◌, Option, Some, None, Result, Ok, Err, IsTrue}
+use Rattle.std.specs.Prelude.{◌≡◌, ◌⊎◌, ℕ, Bool, List, [], ◌∷◌, ◌++◌, Option, Some, None, Result, Ok, Err, IsTrue}
 use Rattle.semantics_lines.specs.Trees.{Tree}
 use Rattle.semantics_lines.specs.Shapes.{Registry}
 use Rattle.semantics_lines.specs.Events.{Event, span_of}
@@ -24,9 +24,9 @@ abbrev pub IsStopError : Option Fault → DeserializeError → Type 0
 IsStopError None e = IsMemory e
 IsStopError (Some f) e = fault_of e ≡ f
 
--- how values are read: by which shapes, and whether borrowed texts stay so; the parser tells what its values are
-abbrev pub setting : Registry → Bool → Setting
-setting g borrow = record { registry = g; borrow = borrow; describes_itself = true }
+-- how values are read: by which shapes, whether borrowed texts stay so, and whether the parser tells what its values are
+abbrev pub setting : Registry → Bool → Bool → Setting
+setting g borrow describes = record { registry = g; borrow = borrow; describes_itself = describes }
 
 -- The events taken are a whole run, which is read as this value within the depth. The value is of the shape, the rest is left
 -- as it was, and the last event taken is the run's last.

@@ -1,6 +1,6 @@
 -- One turn of the loop over the events: what the machine makes of the next one.
-use Rattle.std.specs.Prelude.{◌≡◌, ◌⊎◌, List, [], ◌∷◌, Option, Some, None, Result, Ok, Bool, false}
-use Rattle.semantics_lines.specs.Events.{Span, Event}
+use Rattle.std.specs.Prelude.{◌≡◌, ◌⊎◌, List, [], ◌∷◌, Option, Some, None, Result, Ok, false}
+use Rattle.semantics_lines.specs.Events.{Span}
 use Rattle.semantics_lines.specs.Faults.{bug, Fault}
 use Rattle.shape_types.specs.Trees.{tree_of}
 use Rattle.shape_types.specs.declared.value.Value.{Value}

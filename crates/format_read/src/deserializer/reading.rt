@@ -7,7 +7,7 @@ ghost use Rattle.shape_types.specs.Trees.{tree_of};
 ghost use Rattle.laws_machine.specs.Machine.{machine};
 ghost use Rattle.read_steps.specs.Stops.{told_stop, Gives};
 ghost use Rattle.read_steps.specs.Tasks.{terms_of};
-ghost use Rattle.format_read.specs.Deserializers.{seat_in};
+ghost use Rattle.format_read.specs.Deserializers.{describes_in, seat_in};
 ghost use Rattle.format_read.specs.Deserializing.{setting, IsRead, Answers, IsCaused, IsMemory, IsStopError};
 ghost use Rattle.format_read.specs.Seats.{IsLeft, HasSource};
 
@@ -44,13 +44,13 @@ impl<'parser, 'input, 's, 'v, P: FormatParser<'input>, const BORROW: u8> FormatD
         requires { root.0 < length (registry self.old.plans.now.shapes.now) }
 
         // The events taken are a whole run that is read as this value, and the value is of the shape.
-        ensures read { IsTrue P.tells → IfOk result (λ v. IsRead (setting (registry self.old.plans.now.shapes.now) (nat_eq BORROW 1)) self.old.depth root.0 (seat_in P.parsing self.old).input (seat_in P.parsing self.new).input (tree_of v)) }
+        ensures read { IsTrue P.tells → IfOk result (λ v. IsRead (setting (registry self.old.plans.now.shapes.now) (nat_eq BORROW 1) (describes_in P.parsing self.old)) self.old.depth root.0 (seat_in P.parsing self.old).input (seat_in P.parsing self.new).input (tree_of v)) }
 
         // Whatever run comes first that is read as a value, it is answered, and no more is taken.
-        ensures answers { IsTrue P.tells → Answers tree_of (setting (registry self.old.plans.now.shapes.now) (nat_eq BORROW 1)) self.old.depth root.0 (seat_in P.parsing self.old).input (seat_in P.parsing self.new).input result }
+        ensures answers { IsTrue P.tells → Answers tree_of (setting (registry self.old.plans.now.shapes.now) (nat_eq BORROW 1) (describes_in P.parsing self.old)) self.old.depth root.0 (seat_in P.parsing self.old).input (seat_in P.parsing self.new).input result }
 
         // Each refusal has its cause in the events that were to come.
-        ensures caused { IsTrue P.tells → IfErr result (IsCaused (setting (registry self.old.plans.now.shapes.now) (nat_eq BORROW 1)) self.old.depth root.0 (seat_in P.parsing self.old).input) }
+        ensures caused { IsTrue P.tells → IfErr result (IsCaused (setting (registry self.old.plans.now.shapes.now) (nat_eq BORROW 1) (describes_in P.parsing self.old)) self.old.depth root.0 (seat_in P.parsing self.old).input) }
 
         // What comes afterwards is the end of what was to come.
         ensures left { IsLeft (seat_in P.parsing self.old) (seat_in P.parsing self.new) }
@@ -68,6 +68,7 @@ impl<'parser, 'input, 's, 'v, P: FormatParser<'input>, const BORROW: u8> FormatD
             shapes: plans.shapes(),
             limit: self.depth,
             borrow: BORROW == 1,
+            describes_itself: self.parser.is_self_describing(),
         };
         task.shapes.rules();
         match self.read(&task, root) {

@@ -67,7 +67,8 @@ impl<'de> Reading<'de> {
         ensures more { IfOk result (λ more. more ≡ is_none self.new.value) }
         ensures own { IfErr result (λ e. IsOwn (told_stop e)) }
     {
-        match step(task, &mut self.frames, before, event) {
+        let mut event = event;
+        match step(task, &mut self.frames, before, &mut event) {
             Ok(Status::Going) => Ok(true),
             Ok(Status::Complete(value)) => {
                 self.value = Some(value);
