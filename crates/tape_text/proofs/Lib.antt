@@ -10,6 +10,7 @@ pub mod Unquoting
 pub mod TextSteps
 pub mod Characters
 pub mod Suffixes
+pub mod Bare
 pub mod BodyLaws
 pub mod BodyAgain
 pub mod EventLaws

@@ -186,6 +186,11 @@ pub record Tells (l : List ℕ) (m : Metadata) : Type 0 where
   pub tag_text : IsTapeTag tag
   pub docs_texts : AreTapeTexts docs
 
+-- where no text is, nothing is told
+pub nothing_told : metadata_at [] ≡ Some (metadata None [])
+unfolding metadata_at
+nothing_told = metadata-again None [] _ _
+
 pub metadata-takes : (l : List ℕ) (m : Metadata) → metadata_at l ≡ Some m → Tells l m
 unfolding metadata_at
 metadata-takes l m h =

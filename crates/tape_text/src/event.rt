@@ -1,13 +1,14 @@
 //! Reading a line: its event.
-ghost use Rattle.std.specs.Prelude.{◌≡◌, Some, IfOk};
+ghost use Rattle.std.specs.Prelude.{◌≡◌, [], Some, None, IfOk, MatchOption};
 ghost use Rattle.std.specs.Option.{option_map};
-ghost use Rattle.event_core.specs.Events.{event_of as view_of};
+ghost use Rattle.event_core.specs.Events.{event_of as view_of, event_from as kind_view};
 ghost use Rattle.event_core.specs.Keys.{full_key, key_of};
 ghost use Rattle.event_core.specs.Metadata.{span_view, metadata_of, note_view};
-ghost use Rattle.semantics_lines.specs.Events.{Note};
+ghost use Rattle.semantics_lines.specs.Events.{Note, Span as Place};
 ghost use Rattle.shape_types.specs.Texts.{phrase_of};
-ghost use Rattle.tape_text.specs.Bodies.{takes_metadata};
-ghost use Rattle.tape_text.specs.Reading.{told, noted, key_with, event_from, event_with, completed, event_of};
+ghost use Rattle.tape_text.specs.Bodies.{names, takes_metadata};
+ghost use Rattle.tape_text.specs.Reading.{told, noted, line_note, key_with, event_from, event_with, completed, event_of};
+ghost use Rattle.tape_text.specs.Suffixes.{metadata};
 ghost use Rattle.tape_text.specs.Views.{body_of};
 
 use crate::body::{LineBody, body_at};
@@ -152,6 +153,36 @@ fn event_with<'de>(
     }
 }
 
+/// The event of a body alone.
+fn bare<'de>(alloc: Global, body: LineBody<'de>, span: Span) -> Result<ParseEvent<'de>, OutOfMemory>
+    ensures { IfOk result (λ event. view_of event ≡ event_from (body_of body.entry) (span_view span) (metadata None [])) }
+{
+    match bare_kind(body) {
+        Some(kind) => Ok(ParseEvent::new(kind, span)),
+        None => match full_key(alloc, None, ValueMeta::empty()) {
+            Ok(key) => Ok(ParseEvent::new(ParseEventKind::FieldKey(key), span)),
+            Err(refused) => Err(refused),
+        },
+    }
+}
+
+/// What a body alone is as an event. None for a key without a name.
+fn bare_kind<'de>(body: LineBody<'de>) -> Option<ParseEventKind<'de>>
+    ensures { MatchOption result (body_of body.entry ≡ names None) (λ kind. (span : Place) → kind_view kind (line_note span) ≡ event_from (body_of body.entry) span (metadata None [])) }
+{
+    match body {
+        LineBody::StructStart => Some(ParseEventKind::StructStart(ContainerKind::Object)),
+        LineBody::StructEnd => Some(ParseEventKind::StructEnd),
+        LineBody::SequenceStart => Some(ParseEventKind::SequenceStart(ContainerKind::Array)),
+        LineBody::SequenceEnd => Some(ParseEventKind::SequenceEnd),
+        LineBody::OrderedField => Some(ParseEventKind::OrderedField),
+        LineBody::Key(Some(name)) => Some(ParseEventKind::FieldKey(FieldKey::Name(name))),
+        LineBody::Key(None) => None,
+        LineBody::Tag(name) => Some(ParseEventKind::VariantTag(name)),
+        LineBody::Scalar(value) => Some(ParseEventKind::Scalar(value)),
+    }
+}
+
 /// The event of a body and of the text behind it. None where no metadata are spelled so, or may stand there.
 fn completed<'de>(
     alloc: Global,
@@ -161,6 +192,12 @@ fn completed<'de>(
 ) -> Result<Option<ParseEvent<'de>>, OutOfMemory>
     ensures { IfOk result (λ found. option_map view_of found ≡ completed (span_view span) (body_of body.entry, rest.now)) }
 {
+    if rest.is_empty() {
+        return match bare(alloc, body, span) {
+            Ok(event) => Ok(Some(event)),
+            Err(refused) => Err(refused),
+        };
+    }
     match metadata_at(alloc, rest) {
         Ok(Some(meta)) => event_with(alloc, body, meta, span),
         Ok(None) => {
