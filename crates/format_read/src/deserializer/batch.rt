@@ -3,6 +3,7 @@ ghost use Rattle.std.specs.Prelude.{◌≡◌, ◌⊎◌, ◌≤◌, ◌<◌, []
 ghost use Rattle.event_core.specs.Events.{event_of};
 ghost use Rattle.format_traits.specs.Parsing.{Gave, Failed, EndAfter, Met, IsMemory, HasCause};
 
+use crate::deserializer::DEFAULT_EVENT_BUFFER_SIZE;
 use event_core::{ParseError, ParseEvent};
 use format_traits::FormatParser;
 use read_steps::is_memory;
@@ -25,7 +26,7 @@ pub fn read_batch<'de, P: FormatParser<'de>>(
     ensures fault { IfErr result (λ e. IsMemory e ⊎ Met [] e (P.parsing parser.old) (P.parsing parser.new)) }
     ensures cause { HasCause (P.parsing parser.old).faults (P.parsing parser.new).faults result }
 {
-    let mut batch: VecDeque<ParseEvent<'de>> = VecDeque::new(alloc);
+    let mut batch: VecDeque<ParseEvent<'de>> = batch_of(alloc, room.min(DEFAULT_EVENT_BUFFER_SIZE));
     match parser.next_events(&mut batch, room) {
         Ok(_) => Ok(batch),
         Err(error) => {
@@ -34,5 +35,15 @@ pub fn read_batch<'de, P: FormatParser<'de>>(
             }
             Ok(batch)
         }
+    }
+}
+
+/// An empty batch, with room for so many events where memory has it.
+fn batch_of<'de>(alloc: Global, room: usize) -> VecDeque<ParseEvent<'de>>
+    ensures { result.items ≡ [] }
+{
+    match VecDeque::with_capacity(alloc, room) {
+        Ok(batch) => batch,
+        Err(_) => VecDeque::new(alloc),
     }
 }
