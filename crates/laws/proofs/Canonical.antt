@@ -10,6 +10,7 @@ use Rattle.semantics.specs.Runs.{Run, Entry}
 use Rattle.semantics_lines.specs.Documents.{free, Document, plain, object, Documents, no_documents, document, no_members, member, on_tape}
 use Rattle.semantics.specs.Typed.{base, has_length}
 use Rattle.semantics.specs.Writing.{where_fits, written_sequence, written_object, write, write_each, write_items, write_fields}
+use Rattle.semantics.specs.Labels.{label_at}
 use Rattle.semantics.specs.Reading.{Setting, from_events, Reader, plain_layout, read_option, read_scalar, read_sequence, read_each, read_items, by_outcome, read_result, read_elements, read_tuple, read_struct, read_object, and_trees, read_as, read_shape, read}
 use Rattle.semantics.specs.Depths.{depth, deepest, deepest_field}
 use Rattle.semantics.specs.Validity.{repeated_key, option_over_null, borrowed_text, HasDistinctKeys, OwnsTexts, HasNoClash, may_be_null, Distinct, every_clash, Separable, EachAlike, FieldsAlike}
@@ -59,12 +60,12 @@ module _ (g : Setting) (checked : IsRegistry g.registry) (n : ℕ) (rd : Reader)
     (parts : (s : ℕ) → Separable every_clash g.registry s → (v : Tree) (d : Document) (r : Run) → depth g.registry s v ≤ n → write g.registry s v ≡ Ok d → Comes d r
     → ReadAs g.registry s v (rd s from_events r)) where
   scalar_step : (s : ℕ) (t : ScalarType) → OwnsTexts (scalar_shape t) → (v : Tree) (d : Document) (r : Run) → write_by g.registry (Some (scalar_shape t)) v ≡ Ok d → Comes d r
-      → ReadBy g.registry (scalar_shape t) v (read_scalar g.borrow s t r)
+      → ReadBy g.registry (scalar_shape t) v (read_scalar g.borrow (label_at g.registry s) t r)
   scalar_step s t apart v d r e comes =
       let (fits, is) = scalar_inverted g.registry t v d e in
       let (note, is_r) = comes_plain (literal_at t v) r (subst (λ x. Comes x r) (sym is) comes) in
-      let (w, set, alike) = scalar_back g.registry g.borrow s t v apart fits in
-      (w, ap (read_scalar g.borrow s t) is_r ∙ set, alike)
+      let (w, set, alike) = scalar_back g.registry g.borrow (label_at g.registry s) t v apart fits in
+      (w, ap (read_scalar g.borrow (label_at g.registry s) t) is_r ∙ set, alike)
 
   option_step : (i : ℕ) → may_be_null g.registry i ≡ false → Separable every_clash g.registry i → (v : Tree) (d : Document) (r : Run)
       → depth_by g.registry (Some (option_shape i)) v ≤ suc n → write_by g.registry (Some (option_shape i)) v ≡ Ok d → Comes d r

@@ -10,6 +10,7 @@ use Rattle.semantics.specs.Typed.{on_some, base, scalar_of, option_of, ok_of, er
 use Rattle.semantics.specs.Numerals.{only}
 use Rattle.semantics.specs.Places.{At, below, has_whole, Choice}
 use Rattle.semantics.specs.Keys.{Layout, plan_of, placed, are_allowed}
+use Rattle.semantics.specs.Labels.{label_at}
 use Rattle.semantics.specs.Reading.{Setting, Source, from_events, Reader, of_shape, Parts, by_run, absent, or_value, fill, read_own, FlatReader, in_parts, read_field, and_trees, read_fields, read_flat, read_layout, read_entries, read_struct, read_object, plain_layout, holds_nothing, is_nothing, read_option, read_sequence, read_each, read_items, by_outcome, read_outcome, read_result, read_elements, entry_runs, read_tuple, read_as, read_shape, read}
 use Rattle.laws_lines.proofs.Tests.{both, is_both, if_true, mapped, bound}
 use Rattle.laws.proofs.Built.{BuiltField, struct_built, built, base_is}
@@ -233,7 +234,7 @@ module _ (g : Setting) (checked : IsRegistry g.registry) (rd : Reader) (parts : 
 
   -- one step: where the parts are of their shapes, so is the whole
   step_typed : (s : ℕ) (source : Source) (r : Run) (d : Definition) → definition_at g.registry s ≡ Some d → is_unbuilt d ≡ false → (v : Tree) → read_as g rd s source d r ≡ Some v → typed g.registry s v ≡ true
-  step_typed s source r (scalar_shape t) at fine v e = taken_typed g.registry s t (base_is g.registry s (scalar_shape t) at refl) v (scalar_taken g.borrow s t r v e)
+  step_typed s source r (scalar_shape t) at fine v e = taken_typed g.registry s t (base_is g.registry s (scalar_shape t) at refl) v (scalar_taken g.borrow (label_at g.registry s) t r v e)
   step_typed s source r (option_shape i) at fine v e = option_typed s i (base_is g.registry s (option_shape i) at refl) r v e
   step_typed s source r (result_shape i j) at fine v e =
       let (es, mean) = object_read (read_result rd i j) r v e in

@@ -3,18 +3,20 @@ use Rattle.std.proofs.Common.{◌≡◌, inl, inr, ℕ, zero, suc, ◌+◌, List
 use Rattle.semantics_lines.specs.Trees.{Tree, structure, none, some, trees_of}
 use Rattle.semantics_lines.specs.Shapes.{Field, StructShape, is_tuple, Registry, Definition, scalar_shape, option_shape, result_shape, list_shape, array_shape, set_shape, map_shape, struct_shape, enum_shape, transparent_shape, definition_at}
 use Rattle.semantics_lines.specs.Events.{Span, no_span, Key, key_note, scalar, key, tag, of_struct, of_sequence, object_kind, array_kind, Event, leaf, start, stop, span_of}
-use Rattle.semantics_lines.specs.Faults.{Step, FaultKind, Fault, duplicate_field}
+use Rattle.semantics_lines.specs.Faults.{ShapeLabel, Step, FaultKind, Fault, duplicate_field}
 use Rattle.semantics.specs.Places.{Path, At as Placed, below, has_whole, Choice}
 use Rattle.semantics.specs.Keys.{leads, is_allowed}
 use Rattle.semantics.specs.Registry.{has_some}
 use Rattle.semantics.specs.Setters.{Outcome, set_scalar}
 use Rattle.semantics.specs.Typed.{has_length}
 use Rattle.semantics.specs.Reading.{Source, from_events, Part, of_shape, of_variant, of_tag, of_entry, source_of, key_text, fill, in_parts, is_argument, is_key, is_nothing}
-use Rattle.semantics.specs.Causes.{is_nothing_event, ends_sequence, has_room}
+use Rattle.semantics.specs.Seen.{is_nothing_event, ends_sequence}
+use Rattle.semantics.specs.Typed.{has_room}
 use Rattle.laws_reading.specs.Input.{Input, ◌>>=◌, refused, unexpected, never}
 use Rattle.laws_reading.specs.Skips.{Opened, same_bracket, stopped, skip_of}
 use Rattle.semantics.specs.Ends.{End, leaf_at}
-use Rattle.laws_reading.specs.Structs.{Told, is_taken, taken_span, Spot, gather_own, gather_field, gather_fields, gather_flat, inner_spot, with_tree, as_structure}
+use Rattle.semantics.specs.Places.{is_taken}
+use Rattle.laws_reading.specs.Structs.{Told, taken_span, Spot, gather_own, gather_field, gather_fields, gather_flat, inner_spot, with_tree, as_structure}
 use Rattle.laws_reading.specs.Structs as structs
 use Rattle.laws_reading.specs.Nodes.{Target, or_refused, or_unexpected}
 use Rattle.laws_reading.specs.Options.{side_of, side_in, outcome}
@@ -63,7 +65,7 @@ module _ (span : Span) where
   at_set (Ok v) p = at_ok span (v, here span)
   at_set (Err kind) p = at_refused kind p span
 
-  at_length : {A : Type 0} (o : Option ℕ) (shape got : ℕ) (p : List Step) → At {A = A} span (length_fault o shape got p (here span))
+  at_length : {A : Type 0} (o : Option ℕ) (shape : ShapeLabel) (got : ℕ) (p : List Step) → At {A = A} span (length_fault o shape got p (here span))
   at_length None shape got p = at_never p (here span) span
   at_length (Some wanted) shape got p = at_refused _ p span
 
@@ -88,7 +90,7 @@ module _ (span : Span) where
       by_same true = at_ok span _
       by_same false = at_refused _ p span
 
-  at_filled : (g : Registry) (shape : ℕ) (fs : List Field) (front : List Tree) (p : List Step) → At span (filled_from g shape fs front p (here span))
+  at_filled : (g : Registry) (shape : ShapeLabel) (fs : List Field) (front : List Tree) (p : List Step) → At span (filled_from g shape fs front p (here span))
   at_filled g shape [] front p = at_ok span front
   at_filled g shape (f ∷ fs) front p = at_bind span (tuples.or_missing f shape (fill g f) p (here span)) _ (by_fill (fill g f)) (λ v. at_filled g shape fs (front ++ (v ∷ [])) p)
     where
@@ -107,7 +109,7 @@ module _ (span : Span) where
     at_own : (f : Field) (xs : List (Placed Told)) → At span (gather_own g f spot xs)
     at_own f [] = by_fill (fill g f)
       where
-        by_fill : (o : Option Tree) → At span (structs.or_missing f spot o)
+        by_fill : (o : Option Tree) → At span (structs.or_missing g f spot o)
         by_fill None = at_refused _ p span
         by_fill (Some v) = at_ok span v
     at_own f (x ∷ []) = at_ok span _

@@ -4,7 +4,8 @@ use Rattle.semantics_lines.specs.Trees.{Tree}
 use Rattle.semantics_lines.specs.Events.{Span, scalar, key, tag, of_struct, of_sequence, Event, leaf, start, stop, span_of}
 use Rattle.semantics_lines.specs.Faults.{index_step, Fault, Ending}
 use Rattle.semantics.specs.Reading.{from_events}
-use Rattle.semantics.specs.Causes.{ends_sequence, has_room}
+use Rattle.semantics.specs.Seen.{ends_sequence}
+use Rattle.semantics.specs.Typed.{has_room}
 use Rattle.semantics.specs.Typed.{has_length}
 use Rattle.laws_reading.specs.Input.{Input, feed, ◌>>=◌, turned, turning}
 use Rattle.laws_reading.specs.Sequences.{Items, items_end, items_whole, more_items, item_of, item_turn, sequence_at}

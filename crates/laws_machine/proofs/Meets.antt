@@ -4,6 +4,7 @@ use Rattle.semantics_lines.specs.Trees.{Tree}
 use Rattle.semantics_lines.specs.Shapes.{is_tuple, StructShape, Definition, scalar_shape, option_shape, result_shape, list_shape, array_shape, set_shape, map_shape, struct_shape, enum_shape, transparent_shape, definition_at}
 use Rattle.semantics_lines.specs.Events.{Span, Event, span_of}
 use Rattle.semantics_lines.specs.Faults.{Fault, Ending}
+use Rattle.semantics.specs.Labels.{label_at}
 use Rattle.semantics_lines.specs.Faults.{ended_at}
 use Rattle.semantics.specs.Reading.{Source, from_events}
 use Rattle.laws_reading.specs.Input.{Input, feed, ◌>>=◌}
@@ -56,9 +57,9 @@ module _ (t : Terms) where
     value_meets (Some (result_shape i j)) is [] = stands (Some (result_shape i j)) is [] refl
     value_meets (Some (result_shape i j)) is (e ∷ es) = stands (Some (result_shape i j)) is (e ∷ es) (result_meets t n meets i j fs e es ending last)
     value_meets (Some (list_shape i)) is [] = stands (Some (list_shape i)) is [] refl
-    value_meets (Some (list_shape i)) is (e ∷ es) = stands (Some (list_shape i)) is (e ∷ es) (items_meets t n meets (record { shape = s; len = None }) i fs e es ending last)
+    value_meets (Some (list_shape i)) is (e ∷ es) = stands (Some (list_shape i)) is (e ∷ es) (items_meets t n meets (record { shape = label_at t.setting.registry s; len = None }) i fs e es ending last)
     value_meets (Some (array_shape i len)) is [] = stands (Some (array_shape i len)) is [] refl
-    value_meets (Some (array_shape i len)) is (e ∷ es) = stands (Some (array_shape i len)) is (e ∷ es) (items_meets t n meets (record { shape = s; len = Some len }) i fs e es ending last)
+    value_meets (Some (array_shape i len)) is (e ∷ es) = stands (Some (array_shape i len)) is (e ∷ es) (items_meets t n meets (record { shape = label_at t.setting.registry s; len = Some len }) i fs e es ending last)
     value_meets (Some (struct_shape d)) is [] = stands (Some (struct_shape d)) is [] (empty_struct d (is_tuple d.kind))
     value_meets (Some (struct_shape d)) is (e ∷ es) = stands (Some (struct_shape d)) is (e ∷ es) (struct_as_meets d (is_tuple d.kind) e es)
     value_meets (Some (set_shape i)) is [] = stands (Some (set_shape i)) is [] refl

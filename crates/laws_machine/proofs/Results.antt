@@ -4,7 +4,7 @@ use Rattle.semantics_lines.specs.Trees.{Tree}
 use Rattle.semantics_lines.specs.Events.{Span, of_struct, of_sequence, Event, leaf, start, stop, span_of}
 use Rattle.semantics_lines.specs.Faults.{variant_step, Fault, Ending}
 use Rattle.semantics.specs.Reading.{from_events}
-use Rattle.semantics.specs.Causes.{is_nothing_event}
+use Rattle.semantics.specs.Seen.{is_nothing_event}
 use Rattle.laws_reading.specs.Input.{Input, feed, ◌>>=◌}
 use Rattle.laws_reading.specs.Options.{with_some, option_of, option_at, Sides, side_of, side_in, result_closed, result_side, result_inside, result_at}
 use Rattle.laws_reading.specs.Values.{Terms, reading}

@@ -3,7 +3,7 @@ use Rattle.std.proofs.Common.{◌≡◌, ℕ, zero, suc, List, [], ◌∷◌, �
 use Rattle.semantics_lines.specs.Trees.{Tree, Trees}
 use Rattle.semantics_lines.specs.Shapes.{Field, Definition, Registry, definition_at}
 use Rattle.semantics_lines.specs.Events.{scalar, key, tag, Event, leaf, start, stop}
-use Rattle.semantics_lines.specs.Faults.{Step, Fault}
+use Rattle.semantics_lines.specs.Faults.{ShapeLabel, Step, Fault}
 use Rattle.semantics.specs.Places.{At, below, has_whole, Choice}
 use Rattle.semantics.specs.Keys.{Layout}
 use Rattle.semantics.specs.Reading.{fill, in_parts}
@@ -33,7 +33,7 @@ skip_here (stop b n) (c ∷ os) p input = by_same (same_bracket b c)
     by_same true = refl
     by_same false = refl
 
-pub filled_here : (g : Registry) (shape : ℕ) (fs : List Field) (front : List Tree) (p : List Step) (input : Input) → filled_from g shape fs front p input ≡ filled_from g shape fs front p (here input.last)
+pub filled_here : (g : Registry) (shape : ShapeLabel) (fs : List Field) (front : List Tree) (p : List Step) (input : Input) → filled_from g shape fs front p input ≡ filled_from g shape fs front p (here input.last)
 filled_here g shape [] front p input = refl
 filled_here g shape (f ∷ fs) front p input = by_fill (fill g f) (λ v. filled_here g shape fs (front ++ (v ∷ [])) p input)
   where
@@ -59,7 +59,7 @@ module _ (g : Registry) (shape : ℕ) (p : List Step) (input : Input) where
   own_here : (f : Field) (xs : List (At Told)) → gather_own g f (there input) xs ≡ gather_own g f (there (here input.last)) xs
   own_here f [] = by_fill (fill g f)
     where
-      by_fill : (o : Option Tree) → structs.or_missing f (there input) o ≡ structs.or_missing f (there (here input.last)) o
+      by_fill : (o : Option Tree) → structs.or_missing g f (there input) o ≡ structs.or_missing g f (there (here input.last)) o
       by_fill None = refl
       by_fill (Some v) = refl
   own_here f (x ∷ []) = refl

@@ -11,7 +11,8 @@ use Rattle.laws_reading.specs.Input.{Input, feed, ◌>>=◌, refused, unexpected
 use Rattle.laws_reading.specs.Objects.{Takes}
 use Rattle.laws_reading.specs.Skips.{Opened, skip_at}
 use Rattle.semantics.specs.Ends.{End, leaf_at, steps_at}
-use Rattle.laws_reading.specs.Structs.{Got, nothing_got, end_at, is_taken, taken_span, got_value, at_end_of, passed_over, at_path, field_at, gathered, struct_at}
+use Rattle.semantics.specs.Places.{is_taken}
+use Rattle.laws_reading.specs.Structs.{Got, nothing_got, end_at, taken_span, got_value, at_end_of, passed_over, at_path, field_at, gathered, struct_at}
 use Rattle.laws_reading.specs.Values.{Terms, reading}
 use Rattle.laws_machine.specs.Frames.{Frame, object, field, Frames, StructPart, path}
 use Rattle.laws_machine.specs.Delivery.{with_got, past_key}

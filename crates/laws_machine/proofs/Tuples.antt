@@ -3,10 +3,11 @@ use Rattle.std.proofs.Common.{◌≡◌, ℕ, zero, suc, ◌+◌, ◌<◌, List,
 use Rattle.semantics_lines.specs.Trees.{Tree}
 use Rattle.semantics_lines.specs.Shapes.{Field, StructShape, Registry}
 use Rattle.semantics_lines.specs.Events.{Span, key_note, scalar, key, tag, of_struct, of_sequence, object_kind, array_kind, Event, leaf, start, stop, span_of}
+use Rattle.semantics.specs.Labels.{label_at}
 use Rattle.semantics_lines.specs.Faults.{index_step, Fault, Ending}
 use Rattle.semantics.specs.Registry.{has_some}
 use Rattle.semantics.specs.Reading.{from_events, is_nothing}
-use Rattle.semantics.specs.Causes.{ends_sequence}
+use Rattle.semantics.specs.Seen.{ends_sequence}
 use Rattle.laws_reading.specs.Input.{Input, feed, ◌>>=◌, turned, turning}
 use Rattle.laws_reading.specs.Sequences.{with_item}
 use Rattle.laws_reading.specs.Tuples.{Elements, element_at, element_of, element_turn, keyed_of, keyed_turn, filled_from, tuple_end, empty_tuple, tuple_at}
@@ -26,7 +27,7 @@ module _ (t : Terms) (n : ℕ) (meets : Meets t n) (s : ℕ) (d : StructShape) w
   registry = t.setting.registry
 
   abbrev tuple : Elements
-  tuple = record { shape = s; fields = d.fields }
+  tuple = record { shape = label_at registry s; fields = d.fields }
 
   abbrev part : List Tree → TuplePart
   part front = record { elements = tuple; depth = n; front = front }
@@ -37,8 +38,8 @@ module _ (t : Terms) (n : ℕ) (meets : Meets t n) (s : ℕ) (d : StructShape) w
 
   end_meets : (front : List Tree) (fs : Frames) (rest : Input) → (tuple_step t (part front) fs rest.last >>= on t rest) ≡ (tuple_end registry tuple (path t fs) (front, rest) >>= resume t fs)
   end_meets front fs rest =
-      by_list (filled_from registry s (drop (length front) d.fields) front (path t fs) (here rest.last)) fs rest
-      ∙ ap (λ r. (r >>= tuples.as_tuple rest) >>= resume t fs) (sym (filled_here registry s (drop (length front) d.fields) front (path t fs) rest))
+      by_list (filled_from registry (label_at registry s) (drop (length front) d.fields) front (path t fs) (here rest.last)) fs rest
+      ∙ ap (λ r. (r >>= tuples.as_tuple rest) >>= resume t fs) (sym (filled_here registry (label_at registry s) (drop (length front) d.fields) front (path t fs) rest))
 
   elements_meet : (k : ℕ) (front : List Tree) (fs : Frames) (es : List Event) (ending : Ending) (last : Span) → length es < k
       → run t (elements (part front) ∷ fs) (feed es ending last) ≡ ((turning (element_turn tuple (reading t n)) k front (path t fs) (feed es ending last) >>= tuple_end registry tuple (path t fs)) >>= resume t fs)
@@ -107,7 +108,7 @@ module _ (t : Terms) (n : ℕ) (meets : Meets t n) (s : ℕ) (d : StructShape) w
   empty_meets false fs rest = refl
 
   pub tuple_meets : (fs : Frames) (e : Event) (es : List Event) (ending : Ending) (last : Span)
-      → (begin_tuple t (new_tuple s d n) fs e >>= on t (feed es ending (span_of e))) ≡ (tuple_at t.setting tuple (reading t n) (path t fs) (feed (e ∷ es) ending last) >>= resume t fs)
+      → (begin_tuple t (new_tuple (label_at registry s) d n) fs e >>= on t (feed es ending (span_of e))) ≡ (tuple_at t.setting tuple (reading t n) (path t fs) (feed (e ∷ es) ending last) >>= resume t fs)
   tuple_meets fs (start of_sequence c m) es ending last = elements_meet (length es + 1) [] fs es ending m.span (omega arith)
   tuple_meets fs (start of_struct object_kind m) es ending last = keyed_meet (length es + 1) [] fs es ending m.span (omega arith)
   tuple_meets fs (start of_struct array_kind m) es ending last = refl

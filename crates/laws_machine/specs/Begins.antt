@@ -3,10 +3,11 @@ use Rattle.std.specs.Prelude.{ℕ, zero, suc, [], ◌∷◌, Option, Some, None,
 use Rattle.semantics_lines.specs.Trees.{none}
 use Rattle.semantics_lines.specs.Shapes.{StructShape, is_tuple, Definition, scalar_shape, option_shape, result_shape, list_shape, array_shape, struct_shape, transparent_shape, definition_at}
 use Rattle.semantics_lines.specs.Events.{Span, Key, scalar, of_struct, of_sequence, object_kind, Event, leaf, start, span_of}
-use Rattle.semantics_lines.specs.Faults.{too_deep}
+use Rattle.semantics_lines.specs.Faults.{ShapeLabel, too_deep}
 use Rattle.semantics.specs.Registry.{has_some}
+use Rattle.semantics.specs.Labels.{label_at}
 use Rattle.semantics.specs.Reading.{Source, from_events, Part, of_shape, of_variant, of_tag, of_entry, source_of, is_nothing, plain_layout}
-use Rattle.semantics.specs.Causes.{is_nothing_event}
+use Rattle.semantics.specs.Seen.{is_nothing_event}
 use Rattle.laws_reading.specs.Input.{◌>>=◌, refused, unexpected, never}
 use Rattle.laws_reading.specs.Structs.{nothing_got}
 use Rattle.laws_reading.specs.Nodes.{Target, set_at, bare_node}
@@ -62,7 +63,7 @@ abbrev pub new_items : Items → ℕ → ℕ → ItemsPart
 new_items t i n = record { items = t; item = i; depth = n; front = [] }
 
 -- a tuple with no items yet
-abbrev pub new_tuple : ℕ → StructShape → ℕ → TuplePart
+abbrev pub new_tuple : ShapeLabel → StructShape → ℕ → TuplePart
 new_tuple s d n = record { elements = record { shape = s; fields = d.fields }; depth = n; front = [] }
 
 -- a struct with no values yet
@@ -75,7 +76,7 @@ new_result i j n = record { sides = record { ok_shape = i; err_shape = j }; dept
 
 -- a struct: a tuple, or an object
 abbrev pub begin_struct : Terms → ℕ → StructShape → ℕ → Bool → Frames → Event → Steps
-begin_struct t s d n true fs e = begin_tuple t (new_tuple s d n) fs e
+begin_struct t s d n true fs e = begin_tuple t (new_tuple (label_at t.setting.registry s) d n) fs e
 begin_struct t s d n false fs e = begin_object t (new_object s d n) fs e
 
 -- a value of this definition, whose parts have this depth
@@ -83,8 +84,8 @@ abbrev pub begin_as : Terms → BeginsPart → ℕ → ℕ → Source → Option
 begin_as t again n s source (Some (scalar_shape x)) fs before e = begin_scalar t (target_of t s x) fs e
 begin_as t again n s source (Some (option_shape i)) fs before e = begin_option (is_nothing_event e) (again i from_events) fs before e
 begin_as t again n s source (Some (result_shape i j)) fs before e = begin_result t (new_result i j n) fs e
-begin_as t again n s source (Some (list_shape i)) fs before e = begin_items t (new_items (record { shape = s; len = None }) i n) fs e
-begin_as t again n s source (Some (array_shape i len)) fs before e = begin_items t (new_items (record { shape = s; len = Some len }) i n) fs e
+begin_as t again n s source (Some (list_shape i)) fs before e = begin_items t (new_items (record { shape = label_at t.setting.registry s; len = None }) i n) fs e
+begin_as t again n s source (Some (array_shape i len)) fs before e = begin_items t (new_items (record { shape = label_at t.setting.registry s; len = Some len }) i n) fs e
 begin_as t again n s source (Some (struct_shape d)) fs before e = begin_struct t s d n (is_tuple d.kind) fs e
 begin_as t again n s source (Some (transparent_shape i)) fs before e = again i source fs before e
 begin_as t again n s source _ fs before e = unexpected (path t fs) (here (span_of e))

@@ -3,7 +3,8 @@ use Rattle.std.specs.Prelude.{◌≡◌, ◌⊎◌, ℕ, zero, suc, ◌∷◌, l
 use Rattle.semantics_lines.specs.Shapes.{Field, Definition, option_shape, transparent_shape, definition_at}
 use Rattle.semantics_lines.specs.Events.{Span, Event, span_of}
 use Rattle.semantics_lines.specs.Faults.{bug, Fault}
-use Rattle.semantics.specs.Causes.{is_nothing_event, ends_sequence, has_room}
+use Rattle.semantics.specs.Seen.{is_nothing_event, ends_sequence}
+use Rattle.semantics.specs.Typed.{has_room}
 use Rattle.laws_reading.specs.Values.{Terms}
 use Rattle.laws_machine.specs.Frames.{awaits, items, elements, Frames}
 use Rattle.laws_machine.specs.Steps.{step_at}

@@ -7,12 +7,14 @@ use Rattle.semantics_lines.specs.Faults.{too_many_elements, duplicate_field, ref
 use Rattle.semantics.specs.Places.{Path}
 use Rattle.semantics.specs.Keys.{Plan, plan_of, leads, is_allowed}
 use Rattle.semantics.specs.Reading.{from_events, key_phrase, key_text, is_argument, is_key}
-use Rattle.semantics.specs.Causes.{ends_sequence, has_room}
+use Rattle.semantics.specs.Seen.{ends_sequence}
+use Rattle.semantics.specs.Typed.{has_room}
 use Rattle.semantics.specs.Typed.{has_length}
 use Rattle.laws_reading.specs.Input.{Input, ◌>>=◌, refused, unexpected, never}
 use Rattle.laws_reading.specs.Skips.{Opened, skip_of}
 use Rattle.semantics.specs.Ends.{End, leaf_at}
-use Rattle.laws_reading.specs.Structs.{is_taken, taken_span, gathered}
+use Rattle.semantics.specs.Places.{is_taken}
+use Rattle.laws_reading.specs.Structs.{taken_span, gathered}
 use Rattle.laws_reading.specs.Nodes.{set_at, node_value}
 use Rattle.laws_reading.specs.Options.{side_of, side_in, outcome}
 use Rattle.laws_reading.specs.Sequences.{other_length, items_end}
@@ -34,7 +36,7 @@ item_step false t l fs before e = more_step (has_room l.items.len (length l.fron
 
 -- a tuple has no more items
 abbrev pub too_many : Terms → TuplePart → Frames → Span → Steps
-too_many t l fs last = refused (reflect (too_many_elements l.elements.shape (length l.elements.fields))) (path t fs) (here last)
+too_many t l fs last = refused (reflect (too_many_elements l.elements.shape (length l.elements.fields)) []) (path t fs) (here last)
 
 -- the items of a tuple as its value
 abbrev pub as_tuple : Frames → List Tree → Steps

@@ -8,7 +8,7 @@ use Rattle.semantics_lines.specs.Events.{Span, Event}
 use Rattle.semantics_lines.specs.Faults.{Step, index_step, Ending}
 use Rattle.semantics.specs.Runs.{Run, run_events}
 use Rattle.semantics.specs.Reading.{Source, from_events, Reader, fill, and_trees, read_elements}
-use Rattle.semantics.specs.Causes.{last_span}
+use Rattle.semantics.specs.Seen.{last_span}
 use Rattle.laws_reading.specs.Input.{Input, feed, ◌>>=◌}
 use Rattle.laws_reading.specs.Structs.{ReadsPart}
 use Rattle.laws_reading.specs.Sequences.{with_item}

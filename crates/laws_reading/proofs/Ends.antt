@@ -7,7 +7,8 @@ use Rattle.semantics_lines.specs.Shapes.{Field, Registry}
 use Rattle.semantics.specs.Places.{Path, At, rest_of, rest_at, below, is_end, has_whole, Choice}
 use Rattle.semantics.specs.Reading.{Parts}
 use Rattle.semantics.specs.Ends.{End, leaf_end, FlatLeaf, leaf_field, leaf_found, leaf_in}
-use Rattle.laws_reading.specs.Structs.{Told, is_taken}
+use Rattle.semantics.specs.Places.{is_taken}
+use Rattle.laws_reading.specs.Structs.{Told}
 
 -- which shape stands at the end of a path
 abbrev pub Ends : Type 0

@@ -13,9 +13,9 @@ abbrev pub ok_of : {A : Type 0} → Result A Fault → Option A
 ok_of (Ok v) = Some v
 ok_of (Err e) = None
 
-missing_ok : (f : Field) (spot : Spot) (o : Option Tree) → ok_of (or_missing f spot o) ≡ o
-missing_ok f spot None = refl
-missing_ok f spot (Some v) = refl
+missing_ok : (g : Registry) (f : Field) (spot : Spot) (o : Option Tree) → ok_of (or_missing g f spot o) ≡ o
+missing_ok g f spot None = refl
+missing_ok g f spot (Some v) = refl
 
 trees_ok : (r : Result Tree Fault) (s : Result Trees Fault) → ok_of (r >>= λ v. s >>= with_tree v) ≡ and_trees (ok_of r) (ok_of s)
 trees_ok (Ok v) (Ok vs) = refl
@@ -27,7 +27,7 @@ Gathered gather flat = (d : Option Definition) (c : Choice) (spot : Spot) (xs : 
 
 module _ (g : Registry) (whole : Bool) where
   own_ok : (f : Field) (spot : Spot) (xs : List (At Told)) → ok_of (gather_own g f spot xs) ≡ read_own g kept f xs
-  own_ok f spot [] = missing_ok f spot (fill g f)
+  own_ok f spot [] = missing_ok g f spot (fill g f)
   own_ok f spot (x ∷ []) = refl
   own_ok f spot (x ∷ y ∷ xs) = refl
 

@@ -6,7 +6,8 @@ use Rattle.semantics.specs.Places.{Path, At, below, is_end, has_whole, Choice}
 use Rattle.semantics.specs.Keys.{Layout}
 use Rattle.semantics.specs.Reading.{Parts, FlatReader, read_own, read_field, and_trees, read_fields, read_flat, read_layout}
 use Rattle.semantics.specs.Ends.{End, one_shape, leaf_end, FlatLeaf, leaf_field, leaf_found, leaf_in, leaf_flat, leaf_at}
-use Rattle.laws_reading.specs.Structs.{Told, is_filled, is_taken}
+use Rattle.semantics.specs.Places.{is_filled, is_taken}
+use Rattle.laws_reading.specs.Structs.{Told}
 use Rattle.laws_reading.proofs.Ends.{Kept, kept_below, whole_ends, kept_parts, placed_at, below_among, Lost}
 
 abbrev pub LostIn : {A : Type 0} → Parts A → End → A → Path → List (At A) → Type 0

@@ -7,7 +7,7 @@ use Rattle.semantics_lines.specs.Faults.{Step, Fault, Ending}
 use Rattle.semantics.specs.Runs.{Run, one, group, tagged, run_events, Entry}
 use Rattle.semantics.specs.Setters.{Outcome, set_scalar}
 use Rattle.semantics.specs.Reading.{value_of, set_to, set_by, is_argument, is_key, arguments, read_node, read_scalar}
-use Rattle.semantics.specs.Causes.{last_span}
+use Rattle.semantics.specs.Seen.{last_span}
 use Rattle.laws_reading.specs.Input.{Input, feed, ◌>>=◌, unexpected}
 use Rattle.laws_reading.specs.Skips.{skip_at}
 use Rattle.laws_reading.specs.Nodes.{Target, or_refused, set_at, Node, bare_node, with_argument, argument_at, unchanged, node_entry, or_unexpected, node_value, scalar_at}

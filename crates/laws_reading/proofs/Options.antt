@@ -5,7 +5,7 @@ use Rattle.semantics_lines.specs.Events.{Span, Note, Scalar, scalar, key, tag, E
 use Rattle.semantics_lines.specs.Faults.{Step, Ending}
 use Rattle.semantics.specs.Runs.{Run, one, group, tagged, run_events}
 use Rattle.semantics.specs.Reading.{is_nothing, holds_nothing, read_option}
-use Rattle.semantics.specs.Causes.{is_nothing_event, last_span}
+use Rattle.semantics.specs.Seen.{is_nothing_event, last_span}
 use Rattle.laws_reading.specs.Input.{Input, feed, ◌>>=◌, Reads}
 use Rattle.laws_reading.specs.Options.{with_some, option_of, option_at}
 use Rattle.laws_reading.specs.Laws.{Sound, Complete}

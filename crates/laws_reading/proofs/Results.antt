@@ -5,7 +5,7 @@ use Rattle.semantics_lines.specs.Events.{Span, Note, Key, named, nameless, order
 use Rattle.semantics_lines.specs.Faults.{Step, variant_step, Ending}
 use Rattle.semantics.specs.Runs.{Inside, close, loose, Run, group, inside_events, run_events, Entry, entries}
 use Rattle.semantics.specs.Reading.{Source, from_events, Reader, read_object, by_outcome, read_result}
-use Rattle.semantics.specs.Causes.{last_span}
+use Rattle.semantics.specs.Seen.{last_span}
 use Rattle.laws_reading.specs.Input.{Input, feed, ◌>>=◌, taken_of}
 use Rattle.laws_reading.specs.Structs.{ReadsPart}
 use Rattle.laws_reading.specs.Options.{Sides, side_of, outcome, result_end, result_closed, result_side, result_at}

@@ -4,11 +4,12 @@ use Rattle.std.proofs.lemmas.List.{append-nil}
 use Rattle.std.proofs.lemmas.Bool.{eqb-true, lt-ltb}
 use Rattle.semantics_lines.specs.Trees.{Tree, list, Trees, no_trees, tree, trees_of}
 use Rattle.semantics_lines.specs.Events.{Span, Note, of_struct, of_sequence, ContainerKind, Event, leaf, start, stop}
-use Rattle.semantics_lines.specs.Faults.{Step, index_step, Fault, Ending}
+use Rattle.semantics_lines.specs.Faults.{ShapeLabel, Step, index_step, Fault, Ending}
 use Rattle.semantics.specs.Runs.{Inside, Run, one, group, tagged, inside_events, run_events, items, runs_events}
 use Rattle.semantics.specs.Typed.{has_length}
 use Rattle.semantics.specs.Reading.{and_trees, read_sequence, read_each, read_items}
-use Rattle.semantics.specs.Causes.{last_span, has_room}
+use Rattle.semantics.specs.Seen.{last_span}
+use Rattle.semantics.specs.Typed.{has_room}
 use Rattle.laws_reading.specs.Input.{Input, feed, ◌>>=◌, Reads, turned, turning}
 use Rattle.laws_reading.specs.Sequences.{Items, with_item, length_fault, more_items, item_turn, items_at, items_end, items_whole, sequence_at}
 use Rattle.laws_reading.specs.Laws.{Sound, Complete}
@@ -37,7 +38,7 @@ pub items_last : (last : Span) (rs : List Run) (m : Note) → last_span last (in
 items_last last rs m = ap (last_span last) (inside_of_items_events rs m) ∙ last_span-append last (runs_events rs) (stop of_sequence m ∷ [])
 
 -- another length is always refused
-no_length : {A : Type 0} → (len : Option ℕ) (shape got : ℕ) (path : List Step) (input : Input) (x : A) → length_fault len shape got path input ≡ Ok x → ⊥
+no_length : {A : Type 0} → (len : Option ℕ) (shape : ShapeLabel) (got : ℕ) (path : List Step) (input : Input) (x : A) → length_fault len shape got path input ≡ Ok x → ⊥
 no_length None shape got path input x e = absurd cc
 no_length (Some n) shape got path input x e = absurd cc
 

@@ -10,10 +10,11 @@ use Rattle.semantics.specs.Runs.{Run, run_events, Entry}
 use Rattle.semantics.specs.Places.{Path, At, Choice}
 use Rattle.semantics.specs.Keys.{Layout, plan_of, leads, after_key, with_entry, placed, is_allowed, are_allowed}
 use Rattle.semantics.specs.Reading.{Source, Reader, Part, of_shape, of_variant, of_tag, of_entry, PartReader, part_value, source_of, key_text, parts_by, read_layout, read_entries, read_object}
-use Rattle.semantics.specs.Causes.{last_span}
+use Rattle.semantics.specs.Seen.{last_span}
 use Rattle.laws_reading.specs.Input.{Input, feed, ◌>>=◌, Reads, refused, unexpected}
 use Rattle.semantics.specs.Ends.{End, leaf_at, steps_at}
-use Rattle.laws_reading.specs.Structs.{ReadsPart, ReadsEnd, end_at, Told, Got, nothing_got, is_taken, taken_span, told_at, got_value, at_end_of, passed_over, at_path, field_at, kept, as_structure, gathered_trees, gathered, struct_at}
+use Rattle.semantics.specs.Places.{is_taken}
+use Rattle.laws_reading.specs.Structs.{ReadsPart, ReadsEnd, end_at, Told, Got, nothing_got, taken_span, told_at, got_value, at_end_of, passed_over, at_path, field_at, kept, as_structure, gathered_trees, gathered, struct_at}
 use Rattle.laws_reading.specs.Objects.{Takes, object_at}
 use Rattle.laws_reading.specs.Skips.{skip_at}
 use Rattle.laws_reading.specs.Laws.{Sound, Complete}

@@ -3,6 +3,7 @@ use Rattle.std.proofs.Common.{ℕ, zero, suc, [], Option, Some, None, Bool, true
 use Rattle.semantics_lines.specs.Shapes.{is_tuple, StructShape, Definition, scalar_shape, option_shape, result_shape, list_shape, array_shape, set_shape, map_shape, struct_shape, enum_shape, transparent_shape, definition_at}
 use Rattle.semantics.specs.Runs.{Run}
 use Rattle.semantics_lines.specs.Trees.{Tree}
+use Rattle.semantics.specs.Labels.{label_at}
 use Rattle.semantics.specs.Reading.{Source, from_events, Reader, part_value, read_object, read_struct, plain_layout, read_tuple, read_as, read_shape, read}
 use Rattle.laws_reading.specs.Input.{refused_at}
 use Rattle.laws_reading.specs.Structs.{ReadsPart, end_at}
@@ -25,8 +26,8 @@ module _ (terms : Terms) (rd : Reader) (at : ReadsPart) (s : ℕ) (source : Sour
   step_sound sound (scalar_shape t) = scalar_sound (target_of terms s t)
   step_sound sound (option_shape i) = option_sound (rd i from_events) (at i from_events) (sound i from_events)
   step_sound sound (result_shape i j) = result_sound rd at i j sound
-  step_sound sound (list_shape i) = sequence_sound (rd i from_events) (at i from_events) (record { shape = s; len = None }) (sound i from_events)
-  step_sound sound (array_shape i len) = sequence_sound (rd i from_events) (at i from_events) (record { shape = s; len = Some len }) (sound i from_events)
+  step_sound sound (list_shape i) = sequence_sound (rd i from_events) (at i from_events) (record { shape = label_at terms.setting.registry s; len = None }) (sound i from_events)
+  step_sound sound (array_shape i len) = sequence_sound (rd i from_events) (at i from_events) (record { shape = label_at terms.setting.registry s; len = Some len }) (sound i from_events)
   step_sound sound (struct_shape d) = by_kind (is_tuple d.kind)
     where
       by_kind : (b : Bool) → Sound (WhichStruct d b) (struct_as terms at s d b)
@@ -44,8 +45,8 @@ module _ (terms : Terms) (rd : Reader) (at : ReadsPart) (s : ℕ) (source : Sour
   step_complete complete (scalar_shape t) = scalar_complete (target_of terms s t)
   step_complete complete (option_shape i) = option_complete (rd i from_events) (at i from_events) (complete i from_events)
   step_complete complete (result_shape i j) = result_complete rd at i j complete
-  step_complete complete (list_shape i) = sequence_complete (rd i from_events) (at i from_events) (record { shape = s; len = None }) (complete i from_events)
-  step_complete complete (array_shape i len) = sequence_complete (rd i from_events) (at i from_events) (record { shape = s; len = Some len }) (complete i from_events)
+  step_complete complete (list_shape i) = sequence_complete (rd i from_events) (at i from_events) (record { shape = label_at terms.setting.registry s; len = None }) (complete i from_events)
+  step_complete complete (array_shape i len) = sequence_complete (rd i from_events) (at i from_events) (record { shape = label_at terms.setting.registry s; len = Some len }) (complete i from_events)
   step_complete complete (struct_shape d) = by_kind (is_tuple d.kind)
     where
       by_kind : (b : Bool) → Complete (WhichStruct d b) (struct_as terms at s d b)

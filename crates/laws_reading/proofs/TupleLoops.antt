@@ -8,7 +8,7 @@ use Rattle.semantics_lines.specs.Events.{Span, Note, key_note, key, of_struct, o
 use Rattle.semantics_lines.specs.Faults.{Step, Fault, Ending}
 use Rattle.semantics.specs.Runs.{Run, one, group, tagged, run_events, Entry, entries_events, runs_events}
 use Rattle.semantics.specs.Reading.{Source, from_events, Reader, and_trees, read_elements, entry_runs}
-use Rattle.semantics.specs.Causes.{last_span}
+use Rattle.semantics.specs.Seen.{last_span}
 use Rattle.laws_reading.specs.Input.{Input, feed, ◌>>=◌, Reads, turned, turning}
 use Rattle.laws_reading.specs.Structs.{ReadsPart}
 use Rattle.laws_reading.specs.Tuples.{Elements, element_at, element_turn, keyed_turn}

@@ -6,8 +6,9 @@ use Rattle.semantics_lines.specs.Events.{Span, Note, Scalar, scalar, of_struct, 
 use Rattle.semantics_lines.specs.Faults.{Step, Fault, Ending}
 use Rattle.semantics.specs.Runs.{Inside, Run, one, group, tagged, inside_events, run_events, Entry, entries, items, entries_events, runs_events}
 use Rattle.semantics.specs.Registry.{has_some}
+use Rattle.semantics.specs.Labels.{label_at}
 use Rattle.semantics.specs.Reading.{Setting, Source, Reader, is_nothing, read_elements, entry_runs, read_tuple}
-use Rattle.semantics.specs.Causes.{last_span}
+use Rattle.semantics.specs.Seen.{last_span}
 use Rattle.laws_reading.specs.Input.{Input, feed, ◌>>=◌, turning}
 use Rattle.laws_reading.specs.Structs.{ReadsPart}
 use Rattle.laws_reading.specs.Tuples.{Elements, element_turn, keyed_turn, tuple_end, elements_at, keyed_at, empty_tuple, tuple_at}
@@ -24,7 +25,7 @@ module _ (setting : Setting) (rd : Reader) (read : ReadsPart) (d : StructShape) 
   g = setting.registry
 
   abbrev elements : Elements
-  elements = record { shape = s; fields = d.fields }
+  elements = record { shape = label_at g s; fields = d.fields }
 
   -- the tuple without items, of an event for nothing
   empty_sound : (path : List Step) (x : Scalar) (n : Note) (l : List Event) (ending : Ending) (last : Span) (w : Tree) (after : Input) (b : Bool) → (not (has_some d.fields) && is_nothing x) ≡ b

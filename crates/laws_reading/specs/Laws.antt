@@ -4,7 +4,7 @@ use Rattle.semantics_lines.specs.Events.{Span, Event}
 use Rattle.semantics_lines.specs.Faults.{Step, Fault, Ending}
 use Rattle.semantics.specs.Runs.{Run, run_events}
 use Rattle.semantics.specs.Reading.{Source, read}
-use Rattle.semantics.specs.Causes.{last_span}
+use Rattle.semantics.specs.Seen.{last_span}
 use Rattle.laws_reading.specs.Input.{Input, feed, Reads}
 use Rattle.laws_reading.specs.Values.{Terms, reading}
 

@@ -8,5 +8,4 @@ pub mod Sequences
 pub mod Tuples
 pub mod Values
 pub mod Laws
-pub mod Causes
 pub mod LostOption

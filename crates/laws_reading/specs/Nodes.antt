@@ -3,17 +3,17 @@ use Rattle.std.specs.Prelude.{ℕ, List, Option, Some, None, Result, Ok, Err, Bo
 use Rattle.semantics_lines.specs.Trees.{Tree}
 use Rattle.semantics_lines.specs.Shapes.{ScalarType}
 use Rattle.semantics_lines.specs.Events.{Span, Scalar, Key, key_note, scalar, of_struct, Event, leaf, start}
-use Rattle.semantics_lines.specs.Faults.{Step, duplicate_field, Fault}
+use Rattle.semantics_lines.specs.Faults.{ShapeLabel, Step, duplicate_field, Fault}
 use Rattle.semantics.specs.Setters.{Outcome, set_scalar}
 use Rattle.semantics.specs.Reading.{key_text, is_argument, is_key}
 use Rattle.laws_reading.specs.Input.{Input, ◌>>=◌, Reads, refused, unexpected, taken_at, peeked_at}
 use Rattle.laws_reading.specs.Objects.{Takes, Finish, entries_at, finished}
 use Rattle.laws_reading.specs.Skips.{Opened, skip_at}
 
--- a scalar shape that is set: whether borrowed texts stay so, its number, and its type
+-- a scalar shape that is set: whether borrowed texts stay so, how errors name it, and its type
 pub record Target : Type 0 where
   pub borrow : Bool
-  pub shape : ℕ
+  pub shape : ShapeLabel
   pub type : ScalarType
 
 abbrev pub or_refused : Outcome → Reads Tree

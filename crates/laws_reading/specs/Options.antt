@@ -4,7 +4,8 @@ use Rattle.semantics_lines.specs.Trees.{Tree, none, some, ok, err}
 use Rattle.semantics_lines.specs.Events.{key, of_struct, Event, leaf, start, stop}
 use Rattle.semantics_lines.specs.Faults.{Step, variant_step, Fault}
 use Rattle.semantics.specs.Reading.{from_events, by_outcome}
-use Rattle.semantics.specs.Causes.{is_nothing_event, Side, ok_side, err_side}
+use Rattle.semantics.specs.Seen.{is_nothing_event}
+use Rattle.semantics.specs.Reading.{Side, ok_side, err_side}
 use Rattle.laws_reading.specs.Input.{Input, ◌>>=◌, Reads, unexpected, taken_at, peeked_at}
 use Rattle.laws_reading.specs.Structs.{ReadsPart}
 

@@ -2,14 +2,15 @@
 use Rattle.std.specs.Prelude.{ℕ, ◌+◌, List, [], ◌∷◌, ◌++◌, length, Option, Some, None, Result, Ok, Bool, true, false}
 use Rattle.semantics_lines.specs.Trees.{Tree, list, trees_of}
 use Rattle.semantics_lines.specs.Events.{of_sequence, Event, start}
-use Rattle.semantics_lines.specs.Faults.{Step, index_step, array_length, reflect, Fault}
+use Rattle.semantics_lines.specs.Faults.{ShapeLabel, Step, index_step, array_length, reflect, Fault}
 use Rattle.semantics.specs.Typed.{has_length}
-use Rattle.semantics.specs.Causes.{ends_sequence, has_room}
+use Rattle.semantics.specs.Seen.{ends_sequence}
+use Rattle.semantics.specs.Typed.{has_room}
 use Rattle.laws_reading.specs.Input.{Input, ◌>>=◌, Reads, refused, never, unexpected, taken_at, peeked_at, turning}
 
--- a list or an array, by the number of its shape, and how many items it has, where that is said
+-- a list or an array: how errors name its shape, and how many items it has, where that is said
 pub record Items : Type 0 where
-  pub shape : ℕ
+  pub shape : ShapeLabel
   pub len : Option ℕ
 
 abbrev pub with_end : List Tree → Event × Input → Result ((Bool × List Tree) × Input) Fault
@@ -18,9 +19,9 @@ with_end front x = Ok ((false, front), x.1)
 abbrev pub with_item : List Tree → Tree × Input → Result ((Bool × List Tree) × Input) Fault
 with_item front v = Ok ((true, front ++ (v.0 ∷ [])), v.1)
 
-abbrev pub length_fault : {A : Type 0} → Option ℕ → ℕ → ℕ → List Step → Input → Result A Fault
+abbrev pub length_fault : {A : Type 0} → Option ℕ → ShapeLabel → ℕ → List Step → Input → Result A Fault
 length_fault None shape got path input = never path input
-length_fault (Some wanted) shape got path input = refused (reflect (array_length shape wanted got)) path input
+length_fault (Some wanted) shape got path input = refused (reflect (array_length shape wanted got) []) path input
 
 -- another number of items than there has to be
 abbrev pub other_length : {A : Type 0} → Items → ℕ → List Step → Input → Result A Fault

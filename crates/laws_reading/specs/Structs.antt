@@ -1,10 +1,11 @@
 -- Structs: what is read behind each key is kept under the path of its field, and gathered at the end.
-use Rattle.std.specs.Prelude.{ℕ, zero, suc, List, [], ◌∷◌, ◌++◌, length, Option, Some, None, Result, Ok, Bool, true, false, cond, not, ◌&&◌, ◌||◌}
+use Rattle.std.specs.Prelude.{ℕ, zero, suc, List, [], ◌∷◌, ◌++◌, length, Option, Some, None, Result, Ok, Bool, cond, not, ◌&&◌}
 use Rattle.semantics_lines.specs.Trees.{Tree, structure, Trees, no_trees, tree}
 use Rattle.semantics_lines.specs.Shapes.{Field, Definition, Registry, definition_at}
 use Rattle.semantics_lines.specs.Events.{Span, Key, key_note}
 use Rattle.semantics_lines.specs.Faults.{Step, field_step, missing_field, duplicate_field, Fault}
-use Rattle.semantics.specs.Places.{Path, At, below, is_end, has_whole, Choice}
+use Rattle.semantics.specs.Labels.{label_at}
+use Rattle.semantics.specs.Places.{Path, At, below, is_end, has_whole, is_taken, Choice}
 use Rattle.semantics.specs.Keys.{Layout, Plan, plan_of, leads, after_key, is_allowed}
 use Rattle.semantics.specs.Reading.{Source, Part, of_shape, of_variant, of_tag, of_entry, Parts, key_text, source_of, fill, in_parts}
 use Rattle.semantics.specs.Ends.{End, leaf_at, steps_at}
@@ -39,16 +40,6 @@ pub record Got : Type 0 where
 
 abbrev pub nothing_got : Got
 nothing_got = record { count = 0; values = [] }
-
--- something stands there
-abbrev pub is_filled : {A : Type 0} → List (At A) → Bool
-is_filled [] = false
-is_filled (x ∷ xs) = true
-
--- something stands at this path, before it or below it
-abbrev pub is_taken : {A : Type 0} → Path → List (At A) → Bool
-is_taken [] xs = is_filled xs
-is_taken (k ∷ p) xs = has_whole (below k xs) || is_taken p (below k xs)
 
 abbrev pub first_span : List (At Told) → Option Span
 first_span [] = None
@@ -103,13 +94,13 @@ pub record Spot : Type 0 where
   pub path : List Step
   pub input : Input
 
-abbrev pub or_missing : Field → Spot → Option Tree → Result Tree Fault
-or_missing f spot None = refused (missing_field f.name spot.shape) spot.path spot.input
-or_missing f spot (Some v) = Ok v
+abbrev pub or_missing : Registry → Field → Spot → Option Tree → Result Tree Fault
+or_missing g f spot None = refused (missing_field f.name (label_at g spot.shape)) spot.path spot.input
+or_missing g f spot (Some v) = Ok v
 
 -- the value of a field, or what stands for an absent one
 abbrev pub gather_own : Registry → Field → Spot → List (At Told) → Result Tree Fault
-gather_own g f spot [] = or_missing f spot (fill g f)
+gather_own g f spot [] = or_missing g f spot (fill g f)
 gather_own g f spot (x ∷ []) = Ok x.item.value
 gather_own g f spot (x ∷ y ∷ xs) = never spot.path spot.input
 

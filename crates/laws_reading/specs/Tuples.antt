@@ -3,22 +3,22 @@ use Rattle.std.specs.Prelude.{ℕ, ◌+◌, List, [], ◌∷◌, ◌++◌, lengt
 use Rattle.semantics_lines.specs.Trees.{Tree, structure, trees_of}
 use Rattle.semantics_lines.specs.Shapes.{Field, Registry}
 use Rattle.semantics_lines.specs.Events.{scalar, key, of_struct, of_sequence, object_kind, Event, leaf, start, stop}
-use Rattle.semantics_lines.specs.Faults.{Step, index_step, missing_field, too_many_elements, reflect, Fault}
+use Rattle.semantics_lines.specs.Faults.{ShapeLabel, Step, index_step, missing_field, too_many_elements, reflect, Fault}
 use Rattle.semantics.specs.Registry.{has_some}
 use Rattle.semantics.specs.Reading.{Setting, from_events, fill, is_nothing}
-use Rattle.semantics.specs.Causes.{ends_sequence}
+use Rattle.semantics.specs.Seen.{ends_sequence}
 use Rattle.laws_reading.specs.Input.{Input, ◌>>=◌, Reads, refused, unexpected, taken_at, peeked_at, turning}
 use Rattle.laws_reading.specs.Structs.{ReadsPart}
 use Rattle.laws_reading.specs.Sequences.{with_end, with_item}
 
--- a tuple, by the number of its shape, and its items
+-- a tuple: how errors name its shape, and its items
 pub record Elements : Type 0 where
-  pub shape : ℕ
+  pub shape : ShapeLabel
   pub fields : List Field
 
 -- one more item, where the tuple has one there
 abbrev pub element_at : Option Field → Elements → ReadsPart → List Tree → Reads (Bool × List Tree)
-element_at None t read front path input = refused (reflect (too_many_elements t.shape (length t.fields))) path input
+element_at None t read front path input = refused (reflect (too_many_elements t.shape (length t.fields)) []) path input
 element_at (Some f) t read front path input = read f.shape from_events (path ++ (index_step (length front) ∷ [])) input >>= with_item front
 
 abbrev pub element_of : Bool → Elements → ReadsPart → List Tree → Reads (Bool × List Tree)
@@ -38,12 +38,12 @@ keyed_of _ t read front path input = unexpected path input
 abbrev pub keyed_turn : Elements → ReadsPart → List Tree → Reads (Bool × List Tree)
 keyed_turn t read front path input = taken_at path input >>= λ x. keyed_of x.0 t read front path x.1
 
-abbrev pub or_missing : Field → ℕ → Option Tree → List Step → Input → Result Tree Fault
+abbrev pub or_missing : Field → ShapeLabel → Option Tree → List Step → Input → Result Tree Fault
 or_missing f shape None path input = refused (missing_field f.name shape) path input
 or_missing f shape (Some v) path input = Ok v
 
 -- the items in front, and behind them the fills of these
-abbrev pub filled_from : Registry → ℕ → List Field → List Tree → List Step → Input → Result (List Tree) Fault
+abbrev pub filled_from : Registry → ShapeLabel → List Field → List Tree → List Step → Input → Result (List Tree) Fault
 filled_from g shape [] front path input = Ok front
 filled_from g shape (f ∷ fs) front path input = or_missing f shape (fill g f) path input >>= λ v. filled_from g shape fs (front ++ (v ∷ [])) path input
 

@@ -4,18 +4,12 @@
 //! definitions of `semantics`, each as the contract of a function that does nothing.
 #![tactic(auto)]
 
-ghost use Rattle.laws_reading.specs.Causes.{ReadingFails};
 ghost use Rattle.laws_reading.specs.Laws.{ReadingMeans};
 ghost use Rattle.laws_reading.specs.LostOption.{LosesOption};
 
 /// What is read of events is what their runs mean, and nothing else.
 pub fn reading_means()
     ensures { ReadingMeans }
-{}
-
-/// Each fault of reading has its cause in the events.
-pub fn reading_fails()
-    ensures { ReadingFails }
 {}
 
 /// An example: an option of an option isn't separable, since one of its values is read back as another.

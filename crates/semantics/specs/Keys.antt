@@ -108,6 +108,11 @@ after_key k (named t m n) = k
 after_key k (nameless m n) = k
 after_key k (ordered n) = suc k
 
+-- how many fields were named by their order in these entries
+abbrev pub ordered_count : ℕ → List Entry → ℕ
+ordered_count k [] = k
+ordered_count k (e ∷ es) = ordered_count (after_key k e.key) es
+
 -- an entry, where it leads
 abbrev pub Placed : Type 0
 Placed = At Entry

@@ -1,5 +1,5 @@
 -- Things that stand at a path of fields.
-use Rattle.std.specs.Prelude.{ℕ, List, [], ◌∷◌, Bool, true, false, ◌||◌, Option, Some, None, cond, ◌==◌, filter_map}
+use Rattle.std.specs.Prelude.{ℕ, nat_lt, List, [], ◌∷◌, Bool, true, false, ◌&&◌, ◌||◌, Option, Some, None, cond, ◌==◌, filter_map}
 
 -- the places of the fields that lead to a part of a struct
 abbrev pub Path : Type 0
@@ -41,6 +41,22 @@ is_end (k ∷ p) = false
 abbrev pub has_whole : {A : Type 0} → List (At A) → Bool
 has_whole [] = false
 has_whole (x ∷ xs) = is_end x.path || has_whole xs
+
+-- something stands there
+abbrev pub is_filled : {A : Type 0} → List (At A) → Bool
+is_filled [] = false
+is_filled (x ∷ xs) = true
+
+-- something stands at this path, before it or below it
+abbrev pub is_taken : {A : Type 0} → Path → List (At A) → Bool
+is_taken [] xs = is_filled xs
+is_taken (k ∷ p) xs = has_whole (below k xs) || is_taken p (below k xs)
+
+-- of two paths the first stands before the other, by the order of the fields
+abbrev pub comes_before : Path → Path → Bool
+comes_before [] q = false
+comes_before (j ∷ p) [] = false
+comes_before (j ∷ p) (k ∷ q) = nat_lt j k || (j == k && comes_before p q)
 
 -- a variant for each flattened enum, by its path
 abbrev pub Choice : Type 0

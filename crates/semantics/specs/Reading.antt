@@ -5,6 +5,8 @@ use Rattle.semantics_lines.specs.Texts.{Phrase}
 use Rattle.semantics_lines.specs.Trees.{Tree, none, some, ok, err, list, structure, Trees, no_trees, tree}
 use Rattle.semantics_lines.specs.Shapes.{ScalarType, is_tuple, Field, StructShape, Variant, Definition, scalar_shape, option_shape, result_shape, list_shape, array_shape, struct_shape, transparent_shape, Registry, definition_at}
 use Rattle.semantics_lines.specs.Events.{Metadata, Scalar, unit, null, Key, named, nameless, ordered, of_struct, of_sequence, object_kind, array_kind, Event}
+use Rattle.semantics_lines.specs.Faults.{ShapeLabel}
+use Rattle.semantics.specs.Labels.{label_at}
 use Rattle.semantics.specs.Runs.{Run, one, group, tagged, Entry, entries, items, run_events}
 use Rattle.semantics.specs.Registry.{has_some}
 use Rattle.semantics.specs.Typed.{has_length}
@@ -158,12 +160,12 @@ abbrev pub value_of : Outcome → Option Tree
 value_of (Ok v) = Some v
 value_of (Err f) = None
 
--- what a scalar of an event sets a scalar shape of this number to
-abbrev pub set_to : Bool → ℕ → ScalarType → Scalar → Option Tree
+-- what a scalar of an event sets a scalar shape to, which errors name so
+abbrev pub set_to : Bool → ShapeLabel → ScalarType → Scalar → Option Tree
 set_to borrow s t x = value_of (set_scalar borrow s t x)
 
 -- a run of one scalar sets a scalar shape
-abbrev pub set_by : Bool → ℕ → ScalarType → Run → Option Tree
+abbrev pub set_by : Bool → ShapeLabel → ScalarType → Run → Option Tree
 set_by borrow s t (one x n) = set_to borrow s t x
 set_by borrow s t _ = None
 
@@ -185,11 +187,11 @@ arguments [] = []
 arguments (e ∷ es) = cond (is_argument e.key) (e.run ∷ arguments es) (arguments es)
 
 -- a node: an object of keys alone, whose one argument is a scalar
-abbrev pub read_node : Bool → ℕ → ScalarType → List Entry → Option Tree
+abbrev pub read_node : Bool → ShapeLabel → ScalarType → List Entry → Option Tree
 read_node borrow s t es = cond (list_all (λ e. is_key e.key) es) (option_and_then (set_by borrow s t) (only (arguments es))) None
 
 -- a scalar, or a node
-abbrev pub read_scalar : Bool → ℕ → ScalarType → Run → Option Tree
+abbrev pub read_scalar : Bool → ShapeLabel → ScalarType → Run → Option Tree
 read_scalar borrow s t (one x n) = set_to borrow s t x
 read_scalar borrow s t (group of_struct k n i) = option_and_then (read_node borrow s t) (entries i)
 read_scalar borrow s t _ = None
@@ -229,6 +231,19 @@ by_outcome (named t m n) x y = cond (bytes_eq t.bytes (codes "Ok")) (Some x) (co
 by_outcome (nameless m n) x y = None
 by_outcome (ordered n) x y = None
 
+-- the name and the shape of a side of a result
+pub record Side : Type 0 where
+  pub name : List ℕ
+  pub shape : ℕ
+
+-- the side of a result that went well
+abbrev pub ok_side : ℕ → Side
+ok_side s = record { name = codes "Ok"; shape = s }
+
+-- the side of a result that went wrong
+abbrev pub err_side : ℕ → Side
+err_side s = record { name = codes "Err"; shape = s }
+
 -- a result: one entry, under `Ok` or `Err`
 abbrev pub read_outcome : Reader → ℕ → ℕ → Entry → Option Tree
 read_outcome rd s t e = option_and_then (λ o. o) (by_outcome e.key (option_map ok (rd s from_events e.run)) (option_map err (rd t from_events e.run)))
@@ -258,7 +273,7 @@ read_tuple g rd d (tagged t n r) = None
 
 -- One step of reading a shape of number s, where rd reads the parts. Sets, maps and enums aren't built yet.
 abbrev pub read_as : Setting → Reader → ℕ → Source → Definition → Run → Option Tree
-read_as g rd s source (scalar_shape t) r = read_scalar g.borrow s t r
+read_as g rd s source (scalar_shape t) r = read_scalar g.borrow (label_at g.registry s) t r
 read_as g rd s source (option_shape i) r = read_option (rd i from_events) r
 read_as g rd s source (result_shape i j) r = read_object (read_result rd i j) r
 read_as g rd s source (list_shape i) r = read_sequence (read_items (rd i from_events) None) r

@@ -1,5 +1,5 @@
 -- Which values are of a shape.
-use Rattle.std.specs.Prelude.{ℕ, zero, suc, ℤ, Bool, true, false, cond, ◌&&◌, ◌==◌, List, [], ◌∷◌, length, Option, Some, None, option_and_then}
+use Rattle.std.specs.Prelude.{ℕ, nat_lt, zero, suc, ℤ, Bool, true, false, cond, ◌&&◌, ◌==◌, List, [], ◌∷◌, length, Option, Some, None, option_and_then}
 use Rattle.std.specs.Str.{is_utf8, all_scalars}
 use Rattle.semantics_lines.specs.Trees.{Tree, unit_value, bool_value, char_value, unsigned, signed, text, none, some, ok, err, list, mapping, structure, variant, Trees, no_trees, tree, tree_count, Pairs, no_pairs, pair}
 use Rattle.semantics_lines.specs.Shapes.{ScalarType, unit_type, bool_type, char_type, unsigned_type, signed_type, string_type, str_type, is_tuple, Field, StructShape, Definition, scalar_shape, option_shape, result_shape, list_shape, array_shape, struct_shape, transparent_shape, Registry, definition_at}
@@ -137,6 +137,11 @@ takes_text _ = false
 abbrev pub has_length : Option ℕ → ℕ → Bool
 has_length None n = true
 has_length (Some m) n = m == n
+
+-- there are fewer than are wanted, where that is said
+abbrev pub has_room : Option ℕ → ℕ → Bool
+has_room None n = true
+has_room (Some m) n = nat_lt n m
 
 -- The value is of the shape. An array has as many items as it says, and a struct has one value of its shape for each
 -- field. Sets, maps and enums aren't built yet: no value is of such a shape.

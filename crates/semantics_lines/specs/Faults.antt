@@ -8,21 +8,26 @@ pub data Step : Type 0 where
   index_step : ℕ → Step
   variant_step : List ℕ → Step
 
+-- a shape, as an error names it
+pub record ShapeLabel : Type 0 where
+  pub number : ℕ
+  pub name : List ℕ
+
 -- why a builder or a setter refused
 pub data Refusal : Type 0 where
-  uninitialized_field : ℕ → List ℕ → Refusal
-  parse_failed : ℕ → List ℕ → Refusal
-  no_such_variant : ℕ → List ℕ → Refusal
-  no_such_discriminant : ℕ → ℤ → Refusal
-  wrong_kind : ℕ → Refusal
-  no_default : ℕ → Refusal
+  uninitialized_field : ShapeLabel → List ℕ → Refusal
+  parse_failed : ShapeLabel → List ℕ → Refusal
+  no_such_variant : ShapeLabel → List ℕ → Refusal
+  no_such_discriminant : ShapeLabel → ℤ → Refusal
+  wrong_kind : ShapeLabel → Refusal
+  no_default : ShapeLabel → Refusal
   -- the shape, the number that is wanted, and the number that came
-  array_length : ℕ → ℕ → ℕ → Refusal
-  too_many_elements : ℕ → ℕ → Refusal
-  key_form : ℕ → Refusal
+  array_length : ShapeLabel → ℕ → ℕ → Refusal
+  too_many_elements : ShapeLabel → ℕ → Refusal
+  key_form : ShapeLabel → Refusal
   refused_memory : Refusal
 
--- The kind of a fault, with what its cause names. A shape is named by its number.
+-- The kind of a fault, with what its cause names. A shape is named by its number and its name.
 -- The texts of what was expected and what came are no part of it.
 pub data FaultKind : Type 0 where
   unexpected_char : ℕ → FaultKind
@@ -30,20 +35,22 @@ pub data FaultKind : Type 0 where
   -- the first bytes of the line
   invalid_utf8 : List ℕ → FaultKind
   unexpected_token : FaultKind
-  type_mismatch : ℕ → FaultKind
-  shape_mismatch : ℕ → ℕ → FaultKind
+  type_mismatch : ShapeLabel → FaultKind
+  shape_mismatch : ShapeLabel → ShapeLabel → FaultKind
   unknown_field : List ℕ → FaultKind
-  unknown_variant : List ℕ → ℕ → FaultKind
-  no_matching_variant : ℕ → FaultKind
+  unknown_variant : List ℕ → ShapeLabel → FaultKind
+  no_matching_variant : ShapeLabel → FaultKind
   -- the field, and the shape that has it
-  missing_field : List ℕ → ℕ → FaultKind
+  missing_field : List ℕ → ShapeLabel → FaultKind
   -- the key, and where it stood at first
   duplicate_field : List ℕ → Option Span → FaultKind
-  -- the number, as it is printed
-  number_out_of_range : List ℕ → FaultKind
+  -- the number and the name of the type, as they are printed
+  number_out_of_range : List ℕ → List ℕ → FaultKind
   invalid_value : FaultKind
-  cannot_borrow : FaultKind
-  reflect : Refusal → FaultKind
+  -- the reason, in words
+  cannot_borrow : List ℕ → FaultKind
+  -- why it was refused, and in which context
+  reflect : Refusal → List ℕ → FaultKind
   unsupported : FaultKind
   io_fault : FaultKind
   solver_fault : FaultKind
@@ -51,7 +58,8 @@ pub data FaultKind : Type 0 where
   bug : FaultKind
   out_of_memory : FaultKind
   materialize : FaultKind
-  raw_capture : FaultKind
+  -- the shape that no raw input goes into
+  raw_capture : ShapeLabel → FaultKind
   -- the depth that was handed in
   too_deep : ℕ → FaultKind
 
