@@ -4,7 +4,7 @@ ghost use Rattle.semantics_lines.specs.Trees.{unsigned, signed, text};
 ghost use Rattle.semantics.specs.Typed.{takes_unsigned, takes_signed};
 ghost use Rattle.semantics.specs.Setters.{out_of_range, set_number, set_number_or_text};
 ghost use Rattle.read_parts.specs.Answers.{Gives};
-ghost use Rattle.read_parts.specs.Targets.{target_type, target_shape, names_of};
+ghost use Rattle.read_parts.specs.Targets.{target_type, target_shape, target_event};
 ghost use Rattle.shape_types.specs.Scalars.{scalar_type_of};
 
 use crate::target::{Target, out_of_memory};
@@ -44,7 +44,7 @@ fn unsigned_value<'de>(
     target: Target<'_>,
     number: u128,
 ) -> Result<Value<'de>, DeserializeErrorKind<'de>>
-    ensures { Gives (names_of target.entry) (cond (takes_unsigned number (target_type target.entry)) (Ok (unsigned number)) (out_of_range (pos number))) result }
+    ensures { Gives (target_event target.entry) (cond (takes_unsigned number (target_type target.entry)) (Ok (unsigned number)) (out_of_range (target_type target.entry) (pos number))) result }
 {
     if takes_unsigned(target.scalar, number) {
         Ok(Value::Unsigned(number))
@@ -57,7 +57,7 @@ fn signed_value<'de>(
     target: Target<'_>,
     number: i128,
 ) -> Result<Value<'de>, DeserializeErrorKind<'de>>
-    ensures { Gives (names_of target.entry) (cond (takes_signed number (target_type target.entry)) (Ok (signed number)) (out_of_range number)) result }
+    ensures { Gives (target_event target.entry) (cond (takes_signed number (target_type target.entry)) (Ok (signed number)) (out_of_range (target_type target.entry) number)) result }
 {
     if takes_signed(target.scalar, number) {
         Ok(Value::Signed(number))
@@ -71,7 +71,7 @@ pub(crate) fn set_unsigned<'de>(
     target: Target<'_>,
     number: u128,
 ) -> Result<Value<'de>, DeserializeErrorKind<'de>>
-    ensures { Gives (names_of target.entry) (set_number (target_shape target.entry) (target_type target.entry) (pos number)) result }
+    ensures { Gives (target_event target.entry) (set_number (target_shape target.entry) (target_type target.entry) (pos number)) result }
 {
     match target.scalar {
         ScalarType::U8
@@ -99,7 +99,7 @@ fn set_negative<'de>(
     number: i128,
 ) -> Result<Value<'de>, DeserializeErrorKind<'de>>
     requires { (n : ℕ) × (number ≡ negsuc n) }
-    ensures { Gives (names_of target.entry) (set_number (target_shape target.entry) (target_type target.entry) number) result }
+    ensures { Gives (target_event target.entry) (set_number (target_shape target.entry) (target_type target.entry) number) result }
 {
     match target.scalar {
         ScalarType::U8
@@ -123,7 +123,7 @@ pub(crate) fn set_signed<'de>(
     target: Target<'_>,
     number: i128,
 ) -> Result<Value<'de>, DeserializeErrorKind<'de>>
-    ensures { Gives (names_of target.entry) (set_number (target_shape target.entry) (target_type target.entry) number) result }
+    ensures { Gives (target_event target.entry) (set_number (target_shape target.entry) (target_type target.entry) number) result }
 {
     match u128::try_from(number) {
         Ok(number) => set_unsigned(target, number),
@@ -136,7 +136,7 @@ fn spelled<'de, T: Display>(
     target: Target<'_>,
     number: &T,
 ) -> Result<Value<'de>, DeserializeErrorKind<'de>>
-    ensures { IfSome (T.output number.now) (λ shown. Gives (names_of target.entry) (Ok (text (record { bytes = shown; borrowed = false }))) result) }
+    ensures { IfSome (T.output number.now) (λ shown. Gives (target_event target.entry) (Ok (text (record { bytes = shown; borrowed = false }))) result) }
 {
     match number.to_string(target.alloc) {
         Ok(shown) => Ok(Value::Text(Text::Owned(Name::from_string(shown)))),
@@ -149,7 +149,7 @@ pub(crate) fn set_u64<'de>(
     target: Target<'_>,
     number: u64,
 ) -> Result<Value<'de>, DeserializeErrorKind<'de>>
-    ensures { Gives (names_of target.entry) (set_number_or_text (target_shape target.entry) (target_type target.entry) (pos number)) result }
+    ensures { Gives (target_event target.entry) (set_number_or_text (target_shape target.entry) (target_type target.entry) (pos number)) result }
 {
     match target.scalar {
         ScalarType::String => spelled(target, &number),
@@ -162,7 +162,7 @@ pub(crate) fn set_i64<'de>(
     target: Target<'_>,
     number: i64,
 ) -> Result<Value<'de>, DeserializeErrorKind<'de>>
-    ensures { Gives (names_of target.entry) (set_number_or_text (target_shape target.entry) (target_type target.entry) number) result }
+    ensures { Gives (target_event target.entry) (set_number_or_text (target_shape target.entry) (target_type target.entry) number) result }
 {
     match target.scalar {
         ScalarType::String => spelled(target, &number),

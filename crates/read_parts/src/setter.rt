@@ -1,5 +1,6 @@
 //! What a scalar of an event gives to a scalar shape.
 ghost use Rattle.std.specs.Prelude.{◌≡◌, ◌<◌, length, IsSome, IfSome, Some, Ok};
+ghost use Rattle.semantics.specs.Labels.{name_at, label_at};
 ghost use Rattle.semantics.specs.Typed.{scalar_at};
 ghost use Rattle.semantics_lines.specs.Scalars.{scalar_default};
 ghost use Rattle.semantics.specs.Setters.{set_bool, set_char, set_scalar};
@@ -8,7 +9,7 @@ ghost use Rattle.shape_types.specs.Scalars.{scalar_type_of};
 ghost use Rattle.event_core.specs.Events.{scalar_of};
 ghost use Rattle.event_core.specs.Kinds.{scalar_name as event_name};
 ghost use Rattle.read_parts.specs.Answers.{Gives};
-ghost use Rattle.read_parts.specs.Targets.{target_type, target_shape, names_of, name_at, names_at};
+ghost use Rattle.read_parts.specs.Targets.{target_type, target_shape, target_event};
 
 use crate::number::{set_i64, set_signed, set_u64, set_unsigned};
 use crate::target::{Target, out_of_memory};
@@ -36,7 +37,7 @@ pub fn scalar_value<'de>(
 ) -> Result<Value<'de>, DeserializeErrorKind<'de>>
     requires known { shape.0 < length (registry shapes.now) }
     requires scalar { IsSome (scalar_at (registry shapes.now) shape.0) }
-    ensures { IfSome (scalar_at (registry shapes.now) shape.0) (λ t. Gives (names_at (registry shapes.now) shape.0 t (event_name scalar.entry)) (set_scalar borrow shape.0 t (scalar_of scalar.entry)) result) }
+    ensures { IfSome (scalar_at (registry shapes.now) shape.0) (λ t. Gives (event_name scalar.entry) (set_scalar borrow (label_at (registry shapes.now) shape.0) t (scalar_of scalar.entry)) result) }
 {
     typed_value(alloc, shapes, shape, type_of(shapes, shape), scalar, borrow)
 }
@@ -50,7 +51,7 @@ pub fn typed_value<'de>(
     scalar: ScalarValue<'de>,
     borrow: bool,
 ) -> Result<Value<'de>, DeserializeErrorKind<'de>>
-    ensures { Gives (names_at (registry shapes.now) shape.0 (scalar_type_of target) (event_name scalar.entry)) (set_scalar borrow shape.0 (scalar_type_of target) (scalar_of scalar.entry)) result }
+    ensures { Gives (event_name scalar.entry) (set_scalar borrow (label_at (registry shapes.now) shape.0) (scalar_type_of target) (scalar_of scalar.entry)) result }
 {
     let target = Target {
         alloc,
@@ -88,7 +89,7 @@ fn set<'de>(
     scalar: ScalarValue<'de>,
     borrow: bool,
 ) -> Result<Value<'de>, DeserializeErrorKind<'de>>
-    ensures { Gives (names_of target.entry) (set_scalar borrow (target_shape target.entry) (target_type target.entry) (scalar_of scalar.entry)) result }
+    ensures { Gives (target_event target.entry) (set_scalar borrow (target_shape target.entry) (target_type target.entry) (scalar_of scalar.entry)) result }
 {
     match scalar {
         ScalarValue::Unit | ScalarValue::Null => default_value(target),
@@ -105,7 +106,7 @@ fn set<'de>(
 
 /// What a scalar type has where nothing is told.
 fn default_value<'de>(target: Target<'_>) -> Result<Value<'de>, DeserializeErrorKind<'de>>
-    ensures { Gives (names_of target.entry) (Ok (scalar_default (target_type target.entry))) result }
+    ensures { Gives (target_event target.entry) (Ok (scalar_default (target_type target.entry))) result }
 {
     match target.scalar.default_value(target.alloc) {
         Ok(value) => Ok(value),
@@ -114,7 +115,7 @@ fn default_value<'de>(target: Target<'_>) -> Result<Value<'de>, DeserializeError
 }
 
 fn set_bool<'de>(target: Target<'_>, told: bool) -> Result<Value<'de>, DeserializeErrorKind<'de>>
-    ensures { Gives (names_of target.entry) (set_bool (target_shape target.entry) (target_type target.entry) told) result }
+    ensures { Gives (target_event target.entry) (set_bool (target_shape target.entry) (target_type target.entry) told) result }
 {
     match target.scalar {
         ScalarType::Bool => Ok(Value::Bool(told)),
@@ -123,7 +124,7 @@ fn set_bool<'de>(target: Target<'_>, told: bool) -> Result<Value<'de>, Deseriali
 }
 
 fn set_char<'de>(target: Target<'_>, letter: char) -> Result<Value<'de>, DeserializeErrorKind<'de>>
-    ensures { Gives (names_of target.entry) (set_char (target_shape target.entry) (target_type target.entry) letter) result }
+    ensures { Gives (target_event target.entry) (set_char (target_shape target.entry) (target_type target.entry) letter) result }
 {
     match target.scalar {
         ScalarType::Char => Ok(Value::Char(letter)),

@@ -1,8 +1,9 @@
 //! What a scalar is set into, and how that is refused.
-ghost use Rattle.std.specs.Prelude.{◌≡◌, IfOk, IfSome};
+ghost use Rattle.std.specs.Prelude.{◌≡◌, [], IfOk, IfSome};
 ghost use Rattle.semantics_lines.specs.Faults.{reflect, wrong_kind, parse_failed, number_out_of_range, cannot_borrow};
+ghost use Rattle.semantics.specs.Setters.{type_name, not_lent};
 ghost use Rattle.read_parts.specs.Answers.{IsWantOfMemory, Refuses};
-ghost use Rattle.read_parts.specs.Targets.{target_shape, names_of};
+ghost use Rattle.read_parts.specs.Targets.{target_type, target_shape, target_event};
 
 use event_core::{DeserializeErrorKind, ReflectErrorKind};
 use shape_core::{Name, OutOfMemory, ScalarType, ShapeId, ShapeName, Text};
@@ -44,7 +45,7 @@ impl<'t> Target<'t> {
 
     /// The type takes no such event.
     pub(crate) fn wrong_kind<'e>(self) -> DeserializeErrorKind<'e>
-        ensures { Refuses (names_of self.entry) (reflect (wrong_kind (target_shape self.entry))) result }
+        ensures { Refuses (target_event self.entry) (reflect (wrong_kind (target_shape self.entry)) []) result }
     {
         match self.shape_name() {
             Ok(shape) => DeserializeErrorKind::Reflect {
@@ -60,7 +61,7 @@ impl<'t> Target<'t> {
 
     /// The text is none of the type's values.
     pub(crate) fn parse_failed<'e>(self, text: &str) -> DeserializeErrorKind<'e>
-        ensures { Refuses (names_of self.entry) (reflect (parse_failed (target_shape self.entry) text.now)) result }
+        ensures { Refuses (target_event self.entry) (reflect (parse_failed (target_shape self.entry) text.now) []) result }
     {
         let Ok(shape) = self.shape_name() else {
             return out_of_memory();
@@ -76,7 +77,7 @@ impl<'t> Target<'t> {
 
     /// The number isn't in the range of the type.
     pub(crate) fn out_of_range<'e, T: Display>(self, number: &T) -> DeserializeErrorKind<'e>
-        ensures { IfSome (T.output number.now) (λ text. Refuses (names_of self.entry) (number_out_of_range text) result) }
+        ensures { IfSome (T.output number.now) (λ text. Refuses (target_event self.entry) (number_out_of_range text (type_name (target_type self.entry))) result) }
     {
         match number.to_string(self.alloc) {
             Ok(text) => DeserializeErrorKind::NumberOutOfRange {
@@ -89,7 +90,7 @@ impl<'t> Target<'t> {
 
     /// A text that isn't borrowed, or may not be.
     pub(crate) fn cannot_borrow<'e>(self) -> DeserializeErrorKind<'e>
-        ensures { Refuses (names_of self.entry) cannot_borrow result }
+        ensures { Refuses (target_event self.entry) (cannot_borrow not_lent) result }
     {
         DeserializeErrorKind::CannotBorrow {
             reason: Text::Borrowed("text is not borrowed from the input"),

@@ -9,7 +9,7 @@ ghost use Rattle.shape_types.specs.Scalars.{scalar_type_of};
 ghost use Rattle.shape_types.specs.Texts.{phrase_of};
 ghost use Rattle.shape_types.specs.Trees.{tree_of};
 ghost use Rattle.read_parts.specs.Answers.{Gives};
-ghost use Rattle.read_parts.specs.Targets.{target_type, target_shape, names_of};
+ghost use Rattle.read_parts.specs.Targets.{target_type, target_shape, target_event};
 
 use crate::number::{takes_signed, takes_unsigned};
 use crate::target::{Target, out_of_memory};
@@ -103,7 +103,7 @@ fn set_parsed<'de>(
     text: &str,
     value: Option<Value<'de>>,
 ) -> Result<Value<'de>, DeserializeErrorKind<'de>>
-    ensures { Gives (names_of target.entry) (parsed (target_shape target.entry) text.now (option_map tree_of value.entry)) result }
+    ensures { Gives (target_event target.entry) (parsed (target_shape target.entry) text.now (option_map tree_of value.entry)) result }
 {
     match value {
         Some(value) => Ok(value),
@@ -117,7 +117,7 @@ fn text_value<'de>(
     text: Text<'de>,
     borrow: bool,
 ) -> Result<Value<'de>, DeserializeErrorKind<'de>>
-    ensures { Gives (names_of target.entry) (Ok (text_tree (kept borrow (phrase_of text.entry)))) result }
+    ensures { Gives (target_event target.entry) (Ok (text_tree (kept borrow (phrase_of text.entry)))) result }
 {
     if borrow || !text.is_borrowed() {
         return Ok(Value::Text(text));
@@ -136,7 +136,7 @@ fn borrowed_value<'de>(
     text: Text<'de>,
     borrow: bool,
 ) -> Result<Value<'de>, DeserializeErrorKind<'de>>
-    ensures { Gives (names_of target.entry) (lent borrow (phrase_of text.entry)) result }
+    ensures { Gives (target_event target.entry) (lent borrow (phrase_of text.entry)) result }
 {
     if borrow && text.is_borrowed() {
         Ok(Value::Text(text))
@@ -175,7 +175,7 @@ pub(crate) fn set_text<'de>(
     text: Text<'de>,
     borrow: bool,
 ) -> Result<Value<'de>, DeserializeErrorKind<'de>>
-    ensures { Gives (names_of target.entry) (set_text borrow (target_shape target.entry) (target_type target.entry) (phrase_of text.entry)) result }
+    ensures { Gives (target_event target.entry) (set_text borrow (target_shape target.entry) (target_type target.entry) (phrase_of text.entry)) result }
 {
     match target.scalar {
         ScalarType::String => text_value(target, text, borrow),

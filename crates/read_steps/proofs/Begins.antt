@@ -4,9 +4,10 @@ use Rattle.semantics_lines.specs.Trees.{none}
 use Rattle.semantics_lines.specs.Shapes.{Field, StructShape, is_tuple, Definition, option_shape, struct_shape, transparent_shape, definition_at}
 use Rattle.semantics_lines.specs.Events.{Span, scalar, key, tag, of_struct, of_sequence, object_kind, array_kind, Event, leaf, start, stop, span_of}
 use Rattle.semantics_lines.specs.Faults.{too_deep}
+use Rattle.semantics.specs.Labels.{label_at}
 use Rattle.semantics.specs.Registry.{has_some}
 use Rattle.semantics.specs.Reading.{from_events, is_nothing}
-use Rattle.semantics.specs.Causes.{is_nothing_event}
+use Rattle.semantics.specs.Seen.{is_nothing_event}
 use Rattle.laws_reading.specs.Input.{◌>>=◌}
 use Rattle.laws_reading.specs.Nodes.{Target}
 use Rattle.laws_reading.specs.Tuples.{empty_tuple}
@@ -121,12 +122,12 @@ module _ (t : Terms) (e : Event) (s : ShapeId) (d : StructShape) (fs : Frames) (
   pub tuple_is : definition_at t.setting.registry s.0 ≡ Some (struct_shape d) → is_tuple d.kind ≡ true → begin t (suc n) s.0 from_events fs before e ≡ begin_tuple t (tuple_begun_at t s n) fs e
   tuple_is is kind = by_definition (definition_at t.setting.registry s.0) is
     where
-      by_kind : (b : Bool) → b ≡ true → begin_struct t s.0 d n b fs e ≡ begin_tuple t (record { elements = record { shape = s.0; fields = d.fields }; depth = n; front = [] }) fs e
+      by_kind : (b : Bool) → b ≡ true → begin_struct t s.0 d n b fs e ≡ begin_tuple t (record { elements = record { shape = label_at t.setting.registry s.0; fields = d.fields }; depth = n; front = [] }) fs e
       by_kind true same = refl
       by_kind false same = absurd cc
 
       by_definition : (o : Option Definition) → o ≡ Some (struct_shape d)
-          → begin_as t (begin t n) n s.0 from_events o fs before e ≡ begin_tuple t (record { elements = record { shape = s.0; fields = fields_in o }; depth = n; front = [] }) fs e
+          → begin_as t (begin t n) n s.0 from_events o fs before e ≡ begin_tuple t (record { elements = record { shape = label_at t.setting.registry s.0; fields = fields_in o }; depth = n; front = [] }) fs e
       by_definition o same = rw same (by_kind (is_tuple d.kind) kind)
 
   pub struct_is : definition_at t.setting.registry s.0 ≡ Some (struct_shape d) → is_tuple d.kind ≡ false → begin t (suc n) s.0 from_events fs before e ≡ begin_object t (struct_begun_at t s n) fs e

@@ -6,6 +6,7 @@ use Rattle.semantics_lines.specs.Trees.{Tree, structure, Trees, no_trees, tree, 
 use Rattle.semantics_lines.specs.Shapes.{Field, Registry, definition_at}
 use Rattle.semantics_lines.specs.Events.{Span}
 use Rattle.semantics_lines.specs.Faults.{Step, Fault}
+use Rattle.semantics.specs.Labels.{label_at}
 use Rattle.semantics.specs.Places.{At, below, has_whole}
 use Rattle.semantics.specs.Registry.{IsRegistry}
 use Rattle.semantics.specs.Reading.{or_value, absent, in_parts}
@@ -89,12 +90,12 @@ module _ (g : Registry) (flat : Gathers) (shape : ℕ) (p : List Step) (span : S
       parts true e = absurd cc
       parts false e = refl
 
-      missing_is : (o : Option Tree) → structs.or_missing f spot o ≡ or_missing o f shape p span
+      missing_is : (o : Option Tree) → structs.or_missing g f spot o ≡ or_missing o f (label_at g shape) p span
       missing_is None = refl
       missing_is (Some v) = refl
 
       by_list : (xs : List (At Told)) → gather_own g f spot xs ≡ own_value g f shape (taken_of xs) p span
-      by_list [] = ap (λ o. structs.or_missing f spot (or_value o (absent (definition_at g f.shape)))) b.default ∙ missing_is (absent (definition_at g f.shape))
+      by_list [] = ap (λ o. structs.or_missing g f spot (or_value o (absent (definition_at g f.shape)))) b.default ∙ missing_is (absent (definition_at g f.shape))
       by_list (x ∷ []) = refl
       by_list (x ∷ y ∷ xs) = refl
 

@@ -2,7 +2,7 @@
 use Rattle.std.proofs.Common.{◌≡◌, ℕ, zero, suc, ◌<◌, ◌-◌, Option, Some, None, Bool, true, false, cond, ◌==◌, refl, sym, ap, ◌∙◌, arith}
 use Rattle.semantics_lines.specs.Shapes.{Definition, scalar_shape, option_shape, result_shape, list_shape, array_shape, set_shape, map_shape, struct_shape, enum_shape, transparent_shape, definition_at}
 use Rattle.semantics_lines.specs.Events.{Event}
-use Rattle.semantics.specs.Causes.{is_nothing_event}
+use Rattle.semantics.specs.Seen.{is_nothing_event}
 use Rattle.laws_reading.specs.Values.{Terms}
 use Rattle.laws_machine.specs.Leaves.{unless, leaves_as, begin_leaves}
 use Rattle.read_steps.specs.Leaving.{inner_in, leaves_inner}

@@ -4,7 +4,8 @@ use Rattle.semantics_lines.specs.Shapes.{Field, Definition, scalar_shape, option
 use Rattle.semantics_lines.specs.Events.{Span, Event}
 use Rattle.semantics_lines.specs.Faults.{too_deep}
 use Rattle.semantics.specs.Reading.{Source, from_events}
-use Rattle.semantics.specs.Causes.{is_nothing_event, ends_sequence, has_room}
+use Rattle.semantics.specs.Seen.{is_nothing_event, ends_sequence}
+use Rattle.semantics.specs.Typed.{has_room}
 use Rattle.laws_reading.specs.Values.{Terms}
 use Rattle.laws_machine.specs.Frames.{ItemsPart, TuplePart, option, items, elements, Frames}
 use Rattle.laws_machine.specs.Begins.{begin_option, begin_as, begin}

@@ -6,7 +6,8 @@ use Rattle.semantics_lines.specs.Events.{Span}
 use Rattle.semantics.specs.Places.{Path, At, below, under, is_end, has_whole, Choice}
 use Rattle.semantics.specs.Keys.{Layout, Declared, own_keys, alias_key, keys_by, flat_keys, keys, path_of, or_path, stray_by, flat_stray}
 use Rattle.semantics.specs.Ends.{one_shape, leaf_at}
-use Rattle.laws_reading.specs.Structs.{Told, is_filled, is_taken, first_span, whole_span, or_span, taken_span}
+use Rattle.semantics.specs.Places.{is_filled, is_taken}
+use Rattle.laws_reading.specs.Structs.{Told, first_span, whole_span, or_span, taken_span}
 use Rattle.read_steps.specs.Keys.{is_text, is_called, place_in}
 
 -- what is taken has a key

@@ -5,6 +5,7 @@ use Rattle.semantics_lines.specs.Trees.{Tree}
 use Rattle.semantics_lines.specs.Shapes.{Field, Registry, definition_at}
 use Rattle.semantics_lines.specs.Events.{Span, scalar, key, tag, of_struct, of_sequence, Event, leaf, start, stop, span_of}
 use Rattle.semantics_lines.specs.Faults.{Step, Fault}
+use Rattle.semantics.specs.Labels.{label_at}
 use Rattle.semantics.specs.Registry.{IsRegistry}
 use Rattle.semantics.specs.Reading.{or_value, absent, fill}
 use Rattle.laws_reading.specs.Input.{◌>>=◌}
@@ -51,15 +52,15 @@ within (g ∷ fields) (suc k) f is = let less : k < length fields = within field
 module _ (g : Registry) (checked : IsRegistry g) (shape : ℕ) (p : List Step) (span : Span) where
   -- the item that is absent, and then the others
   one_more : (front : List Tree) (f : Field) → slice_get (fields_at g shape) (length front) ≡ Some f
-      → filled_at g shape front p span ≡ (absent_value g f shape p span >>= λ v. filled_from g shape (drop (suc (length front)) (fields_at g shape)) (front ++ (v ∷ [])) p (here span))
+      → filled_at g shape front p span ≡ (absent_value g f shape p span >>= λ v. filled_from g (label_at g shape) (drop (suc (length front)) (fields_at g shape)) (front ++ (v ∷ [])) p (here span))
   one_more front f is =
-      ap (λ fs. filled_from g shape fs front p (here span)) (cut (fields_at g shape) (length front) f is)
-      ∙ ap (λ r. r >>= λ v. filled_from g shape (drop (suc (length front)) (fields_at g shape)) (front ++ (v ∷ [])) p (here span)) (filling (fill g f) (absent (definition_at g f.shape)) (ap (λ o. or_value o (absent (definition_at g f.shape))) (built_at g checked shape (length front) f is).1))
+      ap (λ fs. filled_from g (label_at g shape) fs front p (here span)) (cut (fields_at g shape) (length front) f is)
+      ∙ ap (λ r. r >>= λ v. filled_from g (label_at g shape) (drop (suc (length front)) (fields_at g shape)) (front ++ (v ∷ [])) p (here span)) (filling (fill g f) (absent (definition_at g f.shape)) (ap (λ o. or_value o (absent (definition_at g f.shape))) (built_at g checked shape (length front) f is).1))
     where
-      filling : (o q : Option Tree) → o ≡ q → tuples.or_missing f shape o p (here span) ≡ or_missing q f shape p span
-      filling o q same = ap (λ x. tuples.or_missing f shape x p (here span)) same ∙ by_value q
+      filling : (o q : Option Tree) → o ≡ q → tuples.or_missing f (label_at g shape) o p (here span) ≡ or_missing q f (label_at g shape) p span
+      filling o q same = ap (λ x. tuples.or_missing f (label_at g shape) x p (here span)) same ∙ by_value q
         where
-          by_value : (q : Option Tree) → tuples.or_missing f shape q p (here span) ≡ or_missing q f shape p span
+          by_value : (q : Option Tree) → tuples.or_missing f (label_at g shape) q p (here span) ≡ or_missing q f (label_at g shape) p span
           by_value None = refl
           by_value (Some v) = refl
 
@@ -71,8 +72,8 @@ module _ (g : Registry) (checked : IsRegistry g) (shape : ℕ) (p : List Step) (
       let front : map tree_of after ≡ map tree_of items ++ (tree_of v ∷ []) = ap (map tree_of) pushed ∙ map-append tree_of items (v ∷ []) in
       sym
       (one_more (map tree_of items) f there
-      ∙ ap (λ r. r >>= λ w. filled_from g shape (drop (suc (length (map tree_of items))) (fields_at g shape)) (map tree_of items ++ (w ∷ [])) p (here span)) value
-      ∙ ap (λ k. filled_from g shape (drop k (fields_at g shape)) (map tree_of items ++ (tree_of v ∷ [])) p (here span)) (longer (map tree_of items) (tree_of v))
+      ∙ ap (λ r. r >>= λ w. filled_from g (label_at g shape) (drop (suc (length (map tree_of items))) (fields_at g shape)) (map tree_of items ++ (w ∷ [])) p (here span)) value
+      ∙ ap (λ k. filled_from g (label_at g shape) (drop k (fields_at g shape)) (map tree_of items ++ (tree_of v ∷ [])) p (here span)) (longer (map tree_of items) (tree_of v))
       ∙ ap (λ vs. filled_at g shape vs p span) (sym front))
     where
       longer : (vs : List Tree) (w : Tree) → suc (length vs) ≡ length (vs ++ (w ∷ []))
@@ -84,11 +85,11 @@ module _ (g : Registry) (checked : IsRegistry g) (shape : ℕ) (p : List Step) (
   filled_fails items f (Some x) is value =
       let there : slice_get (fields_at g shape) (length (map tree_of items)) ≡ Some f = ap (slice_get (fields_at g shape)) (length-map items tree_of) ∙ is in
       one_more (map tree_of items) f there
-      ∙ ap (λ r. r >>= λ w. filled_from g shape (drop (suc (length (map tree_of items))) (fields_at g shape)) (map tree_of items ++ (w ∷ [])) p (here span)) value
+      ∙ ap (λ r. r >>= λ w. filled_from g (label_at g shape) (drop (suc (length (map tree_of items))) (fields_at g shape)) (map tree_of items ++ (w ∷ [])) p (here span)) value
 
   pub filled_all : (items : List Value) → slice_get (fields_at g shape) (length items) ≡ None → filled_at g shape (map tree_of items) p span ≡ Ok (map tree_of items)
   filled_all items none =
-      ap (λ fs. filled_from g shape fs (map tree_of items) p (here span)) (cut_all (fields_at g shape) (length (map tree_of items)) (ap (slice_get (fields_at g shape)) (length-map items tree_of) ∙ none))
+      ap (λ fs. filled_from g (label_at g shape) fs (map tree_of items) p (here span)) (cut_all (fields_at g shape) (length (map tree_of items)) (ap (slice_get (fields_at g shape)) (length-map items tree_of) ∙ none))
 
 -- an item that is there is one of the fields
 pub within_fields : (g : Registry) (shape k : ℕ) (f : Field) → slice_get (fields_at g shape) k ≡ Some f → k < length (fields_at g shape)

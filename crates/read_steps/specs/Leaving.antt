@@ -2,7 +2,8 @@
 use Rattle.std.specs.Prelude.{ℕ, length, slice_get, Option, Some, None, Bool, false, cond}
 use Rattle.semantics_lines.specs.Shapes.{Definition, option_shape, transparent_shape}
 use Rattle.semantics_lines.specs.Events.{Event}
-use Rattle.semantics.specs.Causes.{is_nothing_event, ends_sequence, has_room}
+use Rattle.semantics.specs.Seen.{is_nothing_event, ends_sequence}
+use Rattle.semantics.specs.Typed.{has_room}
 use Rattle.laws_reading.specs.Values.{Terms}
 use Rattle.laws_machine.specs.Frames.{ItemsPart, TuplePart}
 use Rattle.laws_machine.specs.Leaves.{unless, begin_leaves, or_past, element_leaves}

@@ -2,7 +2,7 @@
 use Rattle.std.specs.Prelude.{ℕ, List, [], ◌∷◌, ◌++◌, Option, Some, None}
 use Rattle.semantics_lines.specs.Shapes.{Field}
 use Rattle.semantics_lines.specs.Events.{Span}
-use Rattle.semantics_lines.specs.Faults.{Step, field_step, FaultKind, bug, array_length, reflect, Fault}
+use Rattle.semantics_lines.specs.Faults.{ShapeLabel, Step, field_step, FaultKind, bug, array_length, reflect, Fault}
 use Rattle.laws_reading.specs.Values.{Terms}
 use Rattle.laws_machine.specs.Frames.{Frames, path}
 
@@ -16,6 +16,6 @@ with_field_step None p = p
 with_field_step (Some f) p = p ++ (field_step f.name ∷ [])
 
 -- an array has another number of items, which a list never has
-abbrev pub length_fault_in : Terms → Frames → Option ℕ → ℕ → ℕ → Span → Fault
+abbrev pub length_fault_in : Terms → Frames → Option ℕ → ShapeLabel → ℕ → Span → Fault
 length_fault_in t fs None shape got span = fault_in t fs bug span
-length_fault_in t fs (Some wanted) shape got span = fault_in t fs (reflect (array_length shape wanted got)) span
+length_fault_in t fs (Some wanted) shape got span = fault_in t fs (reflect (array_length shape wanted got) []) span

@@ -1,7 +1,7 @@
 -- What stays the same while a value is read, as the definitions see it.
 use Rattle.std.specs.Prelude.{ℕ, List, [], Option, Some, Bool, false}
 use Rattle.semantics_lines.specs.Shapes.{Field, Definition, struct_shape, Registry, definition_at}
-use Rattle.semantics.specs.Causes.{Side}
+use Rattle.semantics.specs.Reading.{Side}
 use Rattle.shape_types.specs.Shapes.{registry}
 use Rattle.laws_reading.specs.Options.{Sides}
 use Rattle.laws_reading.specs.Values.{Terms}

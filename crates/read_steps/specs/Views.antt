@@ -1,5 +1,6 @@
 -- What is open, as the definitions see it. Of a struct the frames keep the number of its shape: its fields are those of the registry.
 use Rattle.std.specs.Prelude.{ℕ, false, List, [], ◌∷◌, map, reverse, option_map}
+use Rattle.semantics.specs.Labels.{label_at}
 use Rattle.semantics.specs.Places.{At}
 use Rattle.shape_types.specs.Scalars.{scalar_type_of}
 use Rattle.shape_types.specs.Texts.{phrase_of}
@@ -30,12 +31,12 @@ use Rattle.read_steps.specs.Passing.{opened_of}
 use Rattle.read_steps.specs.Tasks.{sides_view, fields_at, denies_at}
 
 -- the items of a list or an array so far
-abbrev pub items_of : ItemsPart → machine.ItemsPart
-items_of p = record { items = record { shape = p.shape.0; len = p.of.len }; item = p.of.item.0; depth = p.depth; front = map tree_of p.front.items }
+abbrev pub items_of : Terms → ItemsPart → machine.ItemsPart
+items_of t p = record { items = record { shape = label_at t.setting.registry p.shape.0; len = p.of.len }; item = p.of.item.0; depth = p.depth; front = map tree_of p.front.items }
 
 -- the items of a tuple so far
 abbrev pub tuple_of : Terms → TuplePart → machine.TuplePart
-tuple_of t p = record { elements = record { shape = p.shape.0; fields = fields_at t.setting.registry p.shape.0 }; depth = p.depth; front = map tree_of p.front.items }
+tuple_of t p = record { elements = record { shape = label_at t.setting.registry p.shape.0; fields = fields_at t.setting.registry p.shape.0 }; depth = p.depth; front = map tree_of p.front.items }
 
 -- a key whose value comes
 abbrev pub entered_of : Named → machine.Entered
@@ -74,7 +75,7 @@ node_of t p = record {
 -- what is open around what is read next
 abbrev pub frame_of : Terms → Frame → machine.Frame
 frame_of t frame.Option = option
-frame_of t (frame.Items p) = items (items_of p)
+frame_of t (frame.Items p) = items (items_of t p)
 frame_of t (frame.Elements p) = elements (tuple_of t p)
 frame_of t (frame.Keyed p) = keyed (tuple_of t p)
 frame_of t (frame.KeyedItem p) = keyed_item (tuple_of t p)
@@ -87,12 +88,12 @@ frame_of t (frame.Node p) = node (node_of t p)
 frame_of t (frame.Argument p first) = argument (node_of t p) (span_view first)
 
 -- a list or an array with no items yet
-abbrev pub items_begun : ShapeId → ItemsOf → ℕ → machine.ItemsPart
-items_begun s of n = record { items = record { shape = s.0; len = of.len }; item = of.item.0; depth = n; front = [] }
+abbrev pub items_begun : Terms → ShapeId → ItemsOf → ℕ → machine.ItemsPart
+items_begun t s of n = record { items = record { shape = label_at t.setting.registry s.0; len = of.len }; item = of.item.0; depth = n; front = [] }
 
 -- a tuple with no items yet
 abbrev pub tuple_begun_at : Terms → ShapeId → ℕ → machine.TuplePart
-tuple_begun_at t s n = record { elements = record { shape = s.0; fields = fields_at t.setting.registry s.0 }; depth = n; front = [] }
+tuple_begun_at t s n = record { elements = record { shape = label_at t.setting.registry s.0; fields = fields_at t.setting.registry s.0 }; depth = n; front = [] }
 
 -- a struct with no fields yet
 abbrev pub struct_begun_at : Terms → ShapeId → ℕ → machine.StructPart

@@ -263,7 +263,7 @@ fn begin_items<'de>(
     of: ItemsOf,
     event: &ParseEvent<'_>,
 ) -> Result<Moved<'de>, ReadStop<'de>>
-    ensures exact { Gives told_stop (λ m. moved_of m (open_of (terms_of task.now) stack.new.items)) result (begin_items (terms_of task.now) (items_begun wanted.shape of wanted.depth) (open_of (terms_of task.now) stack.old.items) (event_of event.now)) }
+    ensures exact { Gives told_stop (λ m. moved_of m (open_of (terms_of task.now) stack.new.items)) result (begin_items (terms_of task.now) (items_begun (terms_of task.now) wanted.shape of wanted.depth) (open_of (terms_of task.now) stack.old.items) (event_of event.now)) }
     ensures own { IfErr result (λ e. IsOwn (told_stop e)) }
 {
     let span = event.span;

@@ -1,7 +1,7 @@
 //! What an event is to those who look for another one.
 ghost use Rattle.std.specs.Prelude.{◌≡◌, is_ok};
 ghost use Rattle.event_core.specs.Events.{event_of, scalar_of};
-ghost use Rattle.semantics.specs.Causes.{is_nothing_event, ends_sequence};
+ghost use Rattle.semantics.specs.Seen.{is_nothing_event, ends_sequence};
 ghost use Rattle.semantics.specs.Reading.{is_nothing};
 ghost use Rattle.read_steps.specs.Fits.{begins_sequence, begins_struct, ends_struct, is_scalar, fit, form_view, tuple_form, goes_on_by, begun_of, begun_view, mark_of, mark_view};
 
@@ -83,8 +83,8 @@ pub fn fit_tuple(empty: bool, event: &ParseEvent<'_>) -> Result<TupleForm, Unfit
     match &event.kind {
         ParseEventKind::SequenceStart(_) => Ok(TupleForm::Sequence),
         ParseEventKind::StructStart(ContainerKind::Object) => Ok(TupleForm::Object),
-        ParseEventKind::StructStart(ContainerKind::Array) => Err(Unfit {
-            got,
+        ParseEventKind::StructStart(container) => Err(Unfit {
+            got: container.name(),
             expected: Expected::Array,
         }),
         ParseEventKind::Scalar(scalar) => {
@@ -161,15 +161,15 @@ pub fn unfit_event(expected: Expected, event: &ParseEvent<'_>) -> Unfit {
     }
 }
 
-/// Any event, where a sequence is expected.
+/// Any event, where a sequence is expected. The start of an object is told by the name of its container.
 fn no_sequence(expected: Expected, event: &ParseEvent<'_>) -> Unfit {
-    if begins_struct(event) {
-        return Unfit {
-            got: "object",
+    match &event.kind {
+        ParseEventKind::StructStart(container) => Unfit {
+            got: container.name(),
             expected: Expected::Array,
-        };
+        },
+        _ => unfit_event(expected, event),
     }
-    unfit_event(expected, event)
 }
 
 fn begins_sequence(event: &ParseEvent<'_>) -> bool

@@ -1,7 +1,9 @@
 //! The items of lists and arrays.
 ghost use Rattle.std.specs.Prelude.{◌≡◌, map, IfErr, Some};
-ghost use Rattle.semantics.specs.Causes.{ends_sequence};
+ghost use Rattle.semantics.specs.Labels.{label_at};
+ghost use Rattle.semantics.specs.Seen.{ends_sequence};
 ghost use Rattle.semantics_lines.specs.Trees.{list, trees_of};
+ghost use Rattle.shape_types.specs.Shapes.{registry};
 ghost use Rattle.shape_types.specs.Trees.{tree_of};
 ghost use Rattle.event_core.specs.Events.{event_of};
 ghost use Rattle.event_core.specs.Metadata.{span_view};
@@ -60,7 +62,7 @@ fn end_items<'de>(
     part: ItemsPart<'de>,
     span: Span,
 ) -> Result<Moved<'de>, ReadStop<'de>>
-    ensures exact { Gives told_stop (λ m. moved_of m (open_of (terms_of task.now) stack.new.items)) result (items_done (terms_of task.now) (items_of part.entry) (open_of (terms_of task.now) stack.old.items) (span_view span)) }
+    ensures exact { Gives told_stop (λ m. moved_of m (open_of (terms_of task.now) stack.new.items)) result (items_done (terms_of task.now) (items_of (terms_of task.now) part.entry) (open_of (terms_of task.now) stack.old.items) (span_view span)) }
     ensures own { IfErr result (λ e. IsOwn (told_stop e)) }
 {
     let got = part.front.len();
@@ -86,7 +88,7 @@ pub fn wrong_length<'e>(
     got: usize,
     span: Span,
 ) -> ReadStop<'e>
-    ensures is { IsFault (told_stop result) (length_fault_in (terms_of task.now) (open_of (terms_of task.now) stack.now) of.len shape.0 got (span_view span)) }
+    ensures is { IsFault (told_stop result) (length_fault_in (terms_of task.now) (open_of (terms_of task.now) stack.now) of.len (label_at (registry task.now.shapes.now) shape.0) got (span_view span)) }
     ensures own { IsOwn (told_stop result) }
 {
     match of.len {

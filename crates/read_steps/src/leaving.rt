@@ -103,7 +103,7 @@ fn open_leaves(task: &Task<'_, '_>, stack: &[Frame<'_>], event: &ParseEvent<'_>)
 }
 
 fn items_leave(task: &Task<'_, '_>, part: &ItemsPart<'_>, event: &ParseEvent<'_>) -> bool
-    ensures { result ≡ items_leave (terms_of task.now) (event_of event.now) (items_of part.now) }
+    ensures { result ≡ items_leave (terms_of task.now) (event_of event.now) (items_of (terms_of task.now) part.now) }
 {
     if ends_sequence(event) {
         return false;

@@ -1,6 +1,6 @@
 //! Why an event is left that a step only looks at.
 ghost use Rattle.std.specs.Prelude.{◌≡◌, ◌∷◌, true, Err};
-ghost use Rattle.semantics.specs.Causes.{ends_sequence};
+ghost use Rattle.semantics.specs.Seen.{ends_sequence};
 ghost use Rattle.event_core.specs.Events.{event_of};
 ghost use Rattle.event_core.specs.Metadata.{span_view};
 ghost use Rattle.laws_machine.specs.Delivery.{Status};
@@ -69,9 +69,9 @@ fn refuse_item<'e>(
     before: Span,
     event: &ParseEvent<'_>,
 ) -> ReadStop<'e>
-    requires inside { open_of (terms_of task.now) stack.now ≡ items (items_of part.now) ∷ open_of (terms_of task.now) outer.now }
-    requires leaves { items_leave (terms_of task.now) (event_of event.now) (items_of part.now) ≡ true }
-    ensures exact { Gives {Y = Status} told_stop (λ s. s) (Err result) (item_step (ends_sequence (event_of event.now)) (terms_of task.now) (items_of part.now) (open_of (terms_of task.now) outer.now) (span_view before) (event_of event.now)) }
+    requires inside { open_of (terms_of task.now) stack.now ≡ items (items_of (terms_of task.now) part.now) ∷ open_of (terms_of task.now) outer.now }
+    requires leaves { items_leave (terms_of task.now) (event_of event.now) (items_of (terms_of task.now) part.now) ≡ true }
+    ensures exact { Gives {Y = Status} told_stop (λ s. s) (Err result) (item_step (ends_sequence (event_of event.now)) (terms_of task.now) (items_of (terms_of task.now) part.now) (open_of (terms_of task.now) outer.now) (span_view before) (event_of event.now)) }
     ensures own { IsOwn (told_stop result) }
 {
     let at = part.front.len();

@@ -2,7 +2,9 @@
 ghost use Rattle.std.specs.Prelude.{◌≡◌, [], Some, IfOk, Err};
 ghost use Rattle.semantics_lines.specs.Events.{no_span};
 ghost use Rattle.semantics_lines.specs.Faults.{unexpected_token, bug, too_deep, array_length, too_many_elements, reflect};
-ghost use Rattle.event_core.specs.Faults.{fault_kind_of, refusal_of};
+ghost use Rattle.semantics.specs.Labels.{label_at};
+ghost use Rattle.shape_types.specs.Shapes.{registry};
+ghost use Rattle.event_core.specs.Faults.{fault_kind_of, refusal_of, label_of};
 ghost use Rattle.event_core.specs.Metadata.{span_view};
 ghost use Rattle.laws_machine.specs.Delivery.{Status, no_step};
 ghost use Rattle.read_steps.specs.Refusals.{fault_in};
@@ -107,7 +109,7 @@ pub fn too_many<'e>(
     span: Span,
 ) -> ReadStop<'e>
     ensures own { IsOwn (told_stop result) }
-    ensures is { IsFault (told_stop result) (fault_in (terms_of task.now) (open_of (terms_of task.now) stack.now) (reflect (too_many_elements shape.0 count)) (span_view span)) }
+    ensures is { IsFault (told_stop result) (fault_in (terms_of task.now) (open_of (terms_of task.now) stack.now) (reflect (too_many_elements (label_at (registry task.now.shapes.now) shape.0) count) []) (span_view span)) }
 {
     match shape_name(task, shape) {
         Ok(shape) => refusal(
@@ -130,7 +132,7 @@ pub fn other_length<'e>(
     span: Span,
 ) -> ReadStop<'e>
     ensures own { IsOwn (told_stop result) }
-    ensures is { IsFault (told_stop result) (fault_in (terms_of task.now) (open_of (terms_of task.now) stack.now) (reflect (array_length shape.0 wanted got)) (span_view span)) }
+    ensures is { IsFault (told_stop result) (fault_in (terms_of task.now) (open_of (terms_of task.now) stack.now) (reflect (array_length (label_at (registry task.now.shapes.now) shape.0) wanted got) []) (span_view span)) }
 {
     match shape_name(task, shape) {
         Ok(shape) => {
@@ -146,14 +148,14 @@ pub fn other_length<'e>(
 }
 
 fn reflected<'e>(kind: ReflectErrorKind<'e>) -> DeserializeErrorKind<'e>
-    ensures { fault_kind_of result ≡ reflect (refusal_of kind.entry) }
+    ensures { fault_kind_of result ≡ reflect (refusal_of kind.entry) [] }
 {
     DeserializeErrorKind::Reflect { kind, context: "" }
 }
 
 /// The shape of this number, by its name; one that isn't there has none.
 pub fn shape_name(task: &Task<'_, '_>, shape: ShapeId) -> Result<ShapeName, OutOfMemory>
-    ensures { IfOk result (λ name. name.id ≡ shape) }
+    ensures { IfOk result (λ name. label_of name ≡ label_at (registry task.now.shapes.now) shape.0) }
 {
     let name = match task.shapes.get(shape) {
         Some(found) => found.name.try_clone(task.alloc)?,

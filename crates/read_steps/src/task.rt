@@ -1,6 +1,6 @@
 //! What stays the same while a value is read.
 ghost use Rattle.std.specs.Prelude.{◌≡◌};
-ghost use Rattle.semantics.specs.Causes.{has_room};
+ghost use Rattle.semantics.specs.Typed.{has_room};
 ghost use Rattle.semantics.specs.Typed.{has_length};
 ghost use Rattle.laws_reading.specs.Options.{side_of};
 ghost use Rattle.read_steps.specs.Tasks.{side_view, sides_view};

@@ -1,6 +1,6 @@
 //! The items of tuples.
 ghost use Rattle.std.specs.Prelude.{◌≡◌, length, slice_get, Err, IfErr, Some};
-ghost use Rattle.semantics.specs.Causes.{ends_sequence};
+ghost use Rattle.semantics.specs.Seen.{ends_sequence};
 ghost use Rattle.event_core.specs.Events.{event_of};
 ghost use Rattle.event_core.specs.Metadata.{span_view};
 ghost use Rattle.laws_machine.specs.Delivery.{Status};

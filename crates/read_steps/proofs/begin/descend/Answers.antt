@@ -1,5 +1,5 @@
 use Rattle.std.proofs.Common.{◌≡◌, ◌∙◌, ◌<◌, ◌-◌, suc, Some, false, sym, ap, arith}
-use Rattle.semantics.specs.Causes.{is_nothing_event}
+use Rattle.semantics.specs.Seen.{is_nothing_event}
 use Rattle.semantics.specs.Reading.{from_events}
 use Rattle.semantics_lines.specs.Shapes.{option_shape, definition_at}
 use Rattle.shape_types.specs.Shapes.{definition_of}
