@@ -38,10 +38,12 @@ module _ (batch : List ParseEvent) (p r : Parsing) (owner : Owner) (q s : Queued
   pub refilled_same : (seat_of r owner s last).input ≡ (seat_of p owner q last).input
   refilled_same = ap (λ (c : Coming). fed c (span_view last)) (same_coming q.capacity s.capacity p r q s as_much (moved_ahead batch p r q s held gave))
 
-  pub refilled_left : p.faults ≤ r.faults → IsLeft (seat_of p owner q last) (seat_of r owner s last)
-  refilled_left faults =
+  pub refilled_left : q.ahead ≡ [] → length batch ≤ q.capacity → p.faults ≤ r.faults → IsLeft (seat_of p owner q last) (seat_of r owner s last)
+  refilled_left empty few faults =
+      let none : length q.ahead ≡ 0 = ap length empty in
       let size : length s.ahead ≡ length (q.ahead ++ batch) = ap length held in
-      left_by [] p r owner q s last last as_much (before_none (ahead_of s r) ∙ moved_ahead batch p r q s held gave) (omega (arith, size, length-append q.ahead batch, length-map batch event_of, gave.left)) faults
+      left_by [] p r owner q s last last as_much (before_none (ahead_of s r) ∙ moved_ahead batch p r q s held gave) (omega (arith, size, length-append q.ahead batch, length-map batch event_of, gave.left))
+      (λ h. omega (arith, size, none, few, as_much, length-append q.ahead batch)) faults
 
   pub refilled_next : 0 < q.capacity → 0 < length batch → HasNext s
   refilled_next room some =
@@ -71,7 +73,7 @@ pub refused_left : (p r : Parsing) (owner : Owner) (q : Queued) (last : Declared
 refused_left p r owner q last empty failed faults =
     left_by failed.lost p r owner q q last last refl
     (ap (λ (es : List ParseEvent). before failed.lost (before (map event_of es) r.coming)) empty ∙ ap (before failed.lost) (before_none r.coming) ∙ failed.coming ∙ sym (before_none p.coming) ∙ sym (ap (λ (es : List ParseEvent). before (map event_of es) p.coming) empty))
-    (omega (arith, failed.left)) faults
+    (omega (arith, failed.left)) (λ h. h) faults
 
 pub refused_source : (e : ParseError) (old new : Seat) → IsMemory e ⊎ Rose old.faults new.faults → HasSource (told_parse e) old new
 refused_source e old new (inl memory) = let test : is_memory e.kind ≡ true = memory_is e.kind memory in subst (λ (b : Bool). HasSource (cond b None (Some (parse_fault e))) old new) (sym test) tt

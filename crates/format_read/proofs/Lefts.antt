@@ -6,7 +6,7 @@ use Rattle.read_steps.specs.Stops.{IsOwn}
 use Rattle.format_read.specs.Seats.{Seat, IsLeft, HasSource}
 
 pub left_same : (a : Seat) → IsLeft a a
-left_same a = record { taken = []; cut = refl; ending = refl; left = omega arith; faults = omega arith; place = refl }
+left_same a = record { taken = []; cut = refl; ending = refl; left = omega arith; within = λ h. h; faults = omega arith; place = refl }
 
 pub left_later : (a b c : Seat) → IsLeft a b → IsLeft b c → IsLeft a c
 left_later a b c x y = record {
@@ -14,6 +14,7 @@ left_later a b c x y = record {
   cut = x.cut ∙ ap (λ (es : List Event). x.taken ++ es) y.cut ∙ sym (append_assoc x.taken y.taken c.input.events);
   ending = y.ending ∙ x.ending;
   left = omega (arith, x.left, y.left);
+  within = λ h. y.within (x.within h);
   faults = omega (arith, x.faults, y.faults);
   place = y.place ∙ x.place;
 }

@@ -4,4 +4,6 @@ pub mod Lefts
 pub mod Ahead
 pub mod Taken
 pub mod Turns
+pub mod Kept
 pub mod Deserialize
+pub mod Finish

@@ -37,14 +37,15 @@ cut_by given (suc n) (suc m) p r q s same is = told_cut given (ahead_of q p) (ah
 
 -- these events were given, by the queue or by the parser
 pub left_by : (given : List Event) (p r : Parsing) (owner : Owner) (q s : Queued) (last last' : DeclaredSpan) → s.capacity ≡ q.capacity → before given (ahead_of s r) ≡ ahead_of q p
-    → r.left + length s.ahead ≤ p.left + length q.ahead → p.faults ≤ r.faults → IsLeft (seat_of p owner q last) (seat_of r owner s last')
-left_by given p r owner q s last last' same is left faults =
+    → r.left + length s.ahead ≤ p.left + length q.ahead → (length q.ahead ≤ q.capacity → length s.ahead ≤ s.capacity) → p.faults ≤ r.faults → IsLeft (seat_of p owner q last) (seat_of r owner s last')
+left_by given p r owner q s last last' same is left within faults =
     let cut = cut_by given q.capacity s.capacity p r q s same is in
     record {
       taken = cut.taken;
       cut = cut.events;
       ending = cut.ending;
       left = left;
+      within = within;
       faults = faults;
       place = ap (λ (n : ℕ). record { owner = owner; capacity = n }) same;
     }

@@ -25,7 +25,7 @@ use Rattle.format_read.proofs.Seats.{ahead_of, left_by, took_ahead}
 pub taken_left : (e : ParseEvent) (p : Parsing) (owner : Owner) (q s : Queued) (last : DeclaredSpan) → Took e q s → IsLeft (seat_of p owner q last) (seat_of p owner s e.span)
 taken_left e p owner q s last took =
     let size : length q.ahead ≡ length (e ∷ s.ahead) = ap length took.ahead in
-    left_by (event_of e ∷ []) p p owner q s last e.span took.capacity (took_ahead e p q s took) (omega (arith, size)) (omega arith)
+    left_by (event_of e ∷ []) p p owner q s last e.span took.capacity (took_ahead e p q s took) (omega (arith, size)) (λ h. omega (arith, size, took.capacity, h)) (omega arith)
 
 pub taken_fewer : (e : ParseEvent) (p : Parsing) (owner : Owner) (q s : Queued) (last : DeclaredSpan) → Took e q s → (seat_of p owner s e.span).left < (seat_of p owner q last).left
 taken_fewer e p owner q s last took =

@@ -7,13 +7,15 @@ use Rattle.semantics_lines.specs.Faults.{out_of_memory, Fault, ends, stops}
 use Rattle.semantics.specs.Runs.{Run, run_events}
 use Rattle.semantics.specs.Typed.{typed}
 use Rattle.semantics.specs.Reading.{Setting, from_events, read}
-use Rattle.semantics.specs.Causes.{last_span}
-use Rattle.semantics.specs.Recoding.{HasCauseFrom}
+use Rattle.semantics.specs.Seen.{last_span}
+use Rattle.semantics_causes.specs.Refusals.{HasCauseFrom}
 use Rattle.event_core.specs.Events.{event_of}
 use Rattle.event_core.specs.Faults.{fault_of}
 use Rattle.event_core.specs.declared.error.DeserializeError.{DeserializeError}
 use Rattle.event_core.specs.declared.event.ParseEvent.{ParseEvent}
 use Rattle.laws_reading.specs.Input.{Input}
+use Rattle.laws_reading.specs.Values.{reading}
+use Rattle.laws_causes.specs.Laws.{Leaves}
 
 -- memory ran out
 abbrev pub IsMemory : DeserializeError → Type 0
@@ -22,11 +24,30 @@ IsMemory e = (fault_of e).kind ≡ out_of_memory
 -- why reading stopped, as an error
 abbrev pub IsStopError : Option Fault → DeserializeError → Type 0
 IsStopError None e = IsMemory e
-IsStopError (Some f) e = fault_of e ≡ f
+IsStopError (Some f) e = IsMemory e ⊎ (fault_of e ≡ f)
+
+-- it stands nowhere in the input, and in no part of the value
+abbrev pub IsBare : DeserializeError → Type 0
+IsBare e = (e.span ≡ None) × (e.path ≡ None)
 
 -- how values are read: by which shapes, whether borrowed texts stay so, and whether the parser tells what its values are
 abbrev pub setting : Registry → Bool → Bool → Setting
 setting g borrow describes = record { registry = g; borrow = borrow; describes_itself = describes }
+
+-- what is read of the events to come within a depth, which a value that is nested deeper is told as the limit
+abbrev pub read_of : Setting → ℕ → ℕ → Input → Result (Tree × Input) Fault
+read_of g depth shape input = reading (record { setting = g; limit = depth }) depth shape from_events [] input
+
+-- The answer is what is read of the events to come, and what comes now is left of them, or the fault is theirs; or memory ran
+-- out.
+abbrev pub IsExact : {V : Type 0} → (V → Tree) → Setting → ℕ → ℕ → Input → Input → Result V DeserializeError → Type 0
+IsExact tree g depth shape old new (Ok v) = read_of g depth shape old ≡ Ok (tree v, new)
+IsExact tree g depth shape old new (Err e) = IsMemory e ⊎ (read_of g depth shape old ≡ Err (fault_of e))
+
+-- some events were taken, and the rest is left; or memory ran out
+abbrev pub Keeps : {V : Type 0} → Input → Input → Result V DeserializeError → Type 0
+Keeps old new (Ok v) = Leaves old new
+Keeps old new (Err e) = IsMemory e ⊎ Leaves old new
 
 -- The events taken are a whole run, which is read as this value within the depth. The value is of the shape, the rest is left
 -- as it was, and the last event taken is the run's last.
@@ -48,9 +69,9 @@ abbrev pub Answers : {V : Type 0} → (V → Tree) → Setting → ℕ → ℕ �
 Answers tree g depth shape old new result = (run : Run) (rest : List Event) (value : Tree) → old.events ≡ run_events run ++ rest
     → read g depth shape from_events run ≡ Some value → IsAnswer tree value rest new.events result
 
--- a refusal has its cause in the events that were to come, and want of memory has none
-abbrev pub IsCaused : Setting → ℕ → ℕ → Input → DeserializeError → Type 0
-IsCaused g depth shape old e = IsMemory e ⊎ HasCauseFrom g shape depth old.last old.events old.ending (fault_of e)
+-- a refusal has its cause in the events that were to come, up to those that are left, and want of memory has none
+abbrev pub IsCaused : Setting → ℕ → ℕ → Input → Input → DeserializeError → Type 0
+IsCaused g depth shape old new e = IsMemory e ⊎ HasCauseFrom g shape depth old.last old.events old.ending new.events (fault_of e)
 
 -- an event was taken, or none is left, or the parser's fault stands behind the last one
 abbrev pub Finishes : Input → Input → Result (Option ParseEvent) DeserializeError → Type 0

@@ -1,4 +1,5 @@
 pub mod Seats
+pub mod Stopping
 pub mod Taking
 pub mod Deserializing
 pub mod Deserializers

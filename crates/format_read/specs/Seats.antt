@@ -28,6 +28,8 @@ pub record Seat : Type 0 where
   pub input : Input
   -- a number that falls with each event taken
   pub left : ℕ
+  -- how many events the parser has given beyond the last one that was taken
+  pub ahead : ℕ
   -- how many faults the parser has met
   pub faults : ℕ
   pub place : Place
@@ -52,9 +54,14 @@ abbrev pub seat_of : Parsing → Owner → Queued → DeclaredSpan → Seat
 seat_of p owner q last = record {
   input = fed (coming_by q.capacity p q) (span_view last);
   left = p.left + length q.ahead;
+  ahead = length q.ahead;
   faults = p.faults;
   place = record { owner = owner; capacity = q.capacity };
 }
+
+-- the parser has given no more events beyond the last one taken than may be read ahead
+abbrev pub IsWithin : Seat → Type 0
+IsWithin s = s.ahead ≤ s.place.capacity
 
 -- Some events were taken, and the rest is left as it was.
 pub record IsLeft (old new : Seat) : Type 0 where
@@ -62,6 +69,7 @@ pub record IsLeft (old new : Seat) : Type 0 where
   pub cut : old.input.events ≡ taken ++ new.input.events
   pub ending : new.input.ending ≡ old.input.ending
   pub left : new.left ≤ old.left
+  pub within : IsWithin old → IsWithin new
   pub faults : old.faults ≤ new.faults
   pub place : new.place ≡ old.place
 

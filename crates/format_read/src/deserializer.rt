@@ -4,6 +4,7 @@ ghost use Rattle.event_core.specs.Queued.{empty_queue};
 
 mod ahead;
 mod batch;
+mod errors;
 mod next;
 mod reading;
 mod turn;

@@ -8,7 +8,7 @@ use Rattle.semantics_lines.specs.Events.{Metadata, Note, key, Event, leaf}
 use Rattle.semantics.specs.Runs.{run_events}
 use Rattle.semantics_lines.specs.Faults.{out_of_memory, ends, stops}
 use Rattle.semantics.specs.Reading.{Setting, from_events, Reads}
-use Rattle.semantics.specs.Recoding.{HasCauseFrom, IsFaultBehind}
+use Rattle.semantics_causes.specs.Refusals.{HasCauseFrom, IsFaultBehind}
 use Rattle.shape_types.specs.declared.value.Value.{Value}
 use Rattle.shape_types.specs.Trees.{tree_of}
 use Rattle.shape_types.specs.Texts.{phrase_of}
@@ -78,7 +78,7 @@ event_taken mid new e found is f = (subst (λ (x : Option ParseEvent). Finishes 
 
 module _ (g : Setting) (root depth : ℕ) (old : Input) where
   not_alone : (e : DeserializeError) (error : RecodeError) → RefusesAs e error
-      → HasCauseFrom g root depth old.last old.events old.ending (fault_of e) ⊎ IsFaultBehind g root depth old.events old.ending (fault_of e)
+      → ((left : List Event) × HasCauseFrom g root depth old.last old.events old.ending left (fault_of e)) ⊎ IsFaultBehind g root depth old.events old.ending (fault_of e)
       → IsNotAlone g root depth old error
   not_alone e error is why = subst (IsNotAlone g root depth old) (sym is) (by_test (is_memory e.kind))
     where
@@ -87,9 +87,9 @@ module _ (g : Setting) (root depth : ℕ) (old : Input) where
       by_test false = why
 
   -- the value isn't read
-  pub refused_value : (e : DeserializeError) (error : RecodeError) → RefusesAs e error → IsCaused g depth root old e → IsNotAlone g root depth old error
-  refused_value e error is (inl memory) = subst (IsNotAlone g root depth old) (sym (memory_alone e error is memory)) tt
-  refused_value e error is (inr cause) = not_alone e error is (inl cause)
+  pub refused_value : (e : DeserializeError) (error : RecodeError) → RefusesAs e error → (new : Input) → IsCaused g depth root old new e → IsNotAlone g root depth old error
+  refused_value e error is new (inl memory) = subst (IsNotAlone g root depth old) (sym (memory_alone e error is memory)) tt
+  refused_value e error is new (inr cause) = not_alone e error is (inl (new.events, cause))
 
   unless_memory : (e : DeserializeError) (error : RecodeError) (value : Tree) → RefusesAs e error → IsMemory e → IsTreeUnlessMemory value (Err error)
   unless_memory e error value is memory = subst (λ (x : RecodeError). IsTreeUnlessMemory value (Err x)) (sym (memory_alone e error is memory)) tt

@@ -81,11 +81,11 @@ module _ (g : Registry) (root depth : ℕ) (input : List ℕ) (tape : TapeIsRead
     pub answer_cause : (r : Result (List ℕ) RecodeError) → IfErr r (IsUnwritten (write g root v)) → IfErr r (IsRefusedFor g root capacity depth input)
     answer_cause (Ok out) u = tt
     answer_cause (Err (errors.Serialize (Unsupported message))) (why, none) =
-        record { events = coming.events; taped = taped; unwritten = record { value = v; reads = stands.reads; reason = why; unwritten = none } }
+        (alone_room (tape_setting g) root depth capacity coming v alone, record { events = coming.events; taped = taped; unwritten = record { value = v; reads = stands.reads; reason = why; unwritten = none } })
     answer_cause (Err errors.Alloc) u = tt
     answer_cause (Err (errors.Deserialize e)) u = absurd u
     answer_cause (Err (errors.Trailing kind span)) u = absurd u
-    answer_cause (Err (errors.Serialize _)) u = u
+    answer_cause (Err (errors.Serialize _)) u = absurd u
 
   -- what can be read is found
   finds_readable : (capacity : ℕ) (result : Result Value RecodeError) → FindsAlone (tape_setting g) root depth (told capacity coming) result → 1 ≤ capacity
@@ -116,11 +116,11 @@ module _ (g : Registry) (root depth : ℕ) (input : List ℕ) (tape : TapeIsRead
   refused_complete capacity errors.Alloc finds some d r = tt
 
   pub refused_cause : (capacity : ℕ) (e : RecodeError) → IsNotAlone (tape_setting g) root depth (told capacity coming) e → IsRefusedFor g root capacity depth input e
-  refused_cause zero (errors.Deserialize e) (inl cause) = inr (record { none_ahead = refl; cause = cause })
+  refused_cause zero (errors.Deserialize e) (inl cause) = cause
   refused_cause zero (errors.Deserialize e) (inr behind) = absurd (run_some behind.reads.run behind.reads.cut)
   refused_cause zero (errors.Trailing kind span) b = absurd (none_before b.trailing.front b.trailing.event b.trailing.rest b.trailing.cut)
-  refused_cause (suc n) (errors.Deserialize e) why = inl (record { events = coming.events; ending = coming.ending; comes = tape.comes; cause = why })
+  refused_cause (suc n) (errors.Deserialize e) why = record { events = coming.events; ending = coming.ending; comes = tape.comes; cause = why }
   refused_cause (suc n) (errors.Trailing kind span) b =
-      record { events = coming.events; ending = coming.ending; comes = tape.comes; trailing = b.trailing; called = b.called }
+      (omega arith, record { events = coming.events; ending = coming.ending; comes = tape.comes; trailing = b.trailing; called = b.called })
   refused_cause _ (errors.Serialize e) why = absurd why
   refused_cause _ errors.Alloc why = tt

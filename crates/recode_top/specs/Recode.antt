@@ -1,5 +1,5 @@
 -- What recoding answers.
-use Rattle.std.specs.Prelude.{◌≡◌, ◌⊎◌, ℕ, zero, suc, List, [], codes, cond, Result, Ok, Err, IsTrue}
+use Rattle.std.specs.Prelude.{◌≡◌, ◌≤◌, ◌⊎◌, ℕ, zero, suc, List, [], codes, cond, Result, Ok, Err, IsTrue}
 use Rattle.semantics_lines.specs.Trees.{Tree}
 use Rattle.semantics_lines.specs.Shapes.{Registry}
 use Rattle.semantics_lines.specs.Events.{scalar, key, named, nameless, ordered, tag, of_struct, of_sequence, Span, no_span, Event, leaf, start, stop, span_of}
@@ -9,8 +9,9 @@ use Rattle.semantics.specs.Typed.{typed}
 use Rattle.semantics.specs.Reading.{Setting, from_events, Reads}
 use Rattle.semantics.specs.Writing.{Unwritten, Written}
 use Rattle.semantics_lines.specs.Tapes.{document_tape, IsTape}
-use Rattle.semantics.specs.Causes.{IsTrailing, HasNoForm}
-use Rattle.semantics.specs.Recoding.{tape_setting, HasCauseFrom, HasCause, IsFaultBehind, IsReadFault}
+use Rattle.semantics_causes.specs.Causes.{IsTrailing, HasNoForm}
+use Rattle.semantics.specs.Recoding.{tape_setting}
+use Rattle.semantics_causes.specs.Refusals.{HasCauseFrom, IsFaultBehind, IsReadFaultWithin}
 use Rattle.semantics_lines.specs.Tapes.{Comes}
 use Rattle.shape_types.specs.declared.value.Value.{Value}
 use Rattle.shape_types.specs.Trees.{tree_of}
@@ -52,9 +53,9 @@ pub record IsBehind (g : Setting) (root depth : ℕ) (events : List Event) (kind
   pub trailing : IsTrailing g root depth events span
   pub called : kind ≡ event_name trailing.event
 
--- why no value stands alone, or memory ran out
+-- why no value stands alone, whatever is left of the events, or memory ran out
 abbrev pub IsNotAlone : Setting → ℕ → ℕ → Input → RecodeError → Type 0
-IsNotAlone g root depth input (errors.Deserialize e) = HasCauseFrom g root depth input.last input.events input.ending (fault_of e)
+IsNotAlone g root depth input (errors.Deserialize e) = ((left : List Event) × HasCauseFrom g root depth input.last input.events input.ending left (fault_of e))
     ⊎ IsFaultBehind g root depth input.events input.ending (fault_of e)
 IsNotAlone g root depth input (errors.Trailing kind span) = IsBehind g root depth input.events kind.now (span_view span)
 IsNotAlone g root depth input (errors.Serialize e) = ⊥
@@ -120,14 +121,13 @@ IsUnwritten form (errors.Serialize e) = IsUnsupported e ((why : Unwritten) × (f
 IsUnwritten form errors.Alloc = Unit {0}
 IsUnwritten form _ = ⊥
 
--- Where no event may be read ahead none comes, and this is the fault of an empty input.
-pub record IsUnread (g : Registry) (root capacity depth : ℕ) (f : Fault) : Type 0 where
-  pub none_ahead : capacity ≡ 0
-  pub cause : HasCause (tape_setting g) root depth [] ends f
+-- what has its cause in events comes only where some may be read ahead
+abbrev pub WithRoom : ℕ → Type 0 → Type 0
+WithRoom capacity P = (1 ≤ capacity) × P
 
 -- the cause of each refusal
 abbrev pub IsRefusedFor : Registry → ℕ → ℕ → ℕ → List ℕ → RecodeError → Type 0
-IsRefusedFor g root capacity depth input (errors.Deserialize e) = IsReadFault g root depth input (fault_of e) ⊎ IsUnread g root capacity depth (fault_of e)
-IsRefusedFor g root capacity depth input (errors.Trailing kind span) = HasTrailing g root depth input kind.now (span_view span)
-IsRefusedFor g root capacity depth input (errors.Serialize e) = IsUnsupported e (HasUnwritten g root depth input)
+IsRefusedFor g root capacity depth input (errors.Deserialize e) = IsReadFaultWithin capacity g root depth input (fault_of e)
+IsRefusedFor g root capacity depth input (errors.Trailing kind span) = WithRoom capacity (HasTrailing g root depth input kind.now (span_view span))
+IsRefusedFor g root capacity depth input (errors.Serialize e) = WithRoom capacity (IsUnsupported e (HasUnwritten g root depth input))
 IsRefusedFor g root capacity depth input errors.Alloc = Unit {0}

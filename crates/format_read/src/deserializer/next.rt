@@ -2,14 +2,15 @@
 ghost use Rattle.std.specs.Prelude.{◌≡◌, ◌<◌, [], ◌∷◌, Ok, IfOk, IfErr, OnOk, IsNone, IsSome, IsTrue};
 ghost use Rattle.event_core.specs.Events.{event_of};
 ghost use Rattle.format_read.specs.Deserializers.{seat_in};
-ghost use Rattle.format_read.specs.Deserializing.{Finishes};
-ghost use Rattle.format_read.specs.Seats.{IsLeft, HasSource};
+ghost use Rattle.format_read.specs.Deserializing.{Finishes, IsBare, IsMemory, Keeps};
+ghost use Rattle.format_read.specs.Seats.{IsLeft, IsWithin, HasSource};
 ghost use Rattle.read_steps.specs.Stops.{told_stop};
 ghost use Rattle.format_read.specs.Taking.{told_error, told_parse, IsToldAs, HasNext, NothingComes, Takes};
 ghost use Rattle.laws_reading.specs.Input.{taken_at};
 
 use crate::deserializer::FormatDeserializer;
 use crate::deserializer::ahead::no_memory;
+use crate::deserializer::errors::finish_error;
 use crate::uncounted::take_ahead;
 use event_core::{DeserializeError, ParseError, ParseEvent};
 use format_traits::FormatParser;
@@ -28,13 +29,16 @@ impl<'parser, 'input, 's, 'v, P: FormatParser<'input>, const BORROW: u8> FormatD
     /// Takes the next event. None at the end of the events, and at capacity 0.
     pub fn finish_input(&mut self) -> Result<Option<ParseEvent<'input>>, DeserializeError<'input>>
         ensures exact { IsTrue P.tells → Finishes (seat_in P.parsing self.old).input (seat_in P.parsing self.new).input result }
+        ensures kept { IsTrue P.tells → Keeps (seat_in P.parsing self.old).input (seat_in P.parsing self.new).input result }
+        ensures ahead { IsWithin (seat_in P.parsing self.old) → IsWithin (seat_in P.parsing self.new) }
+        ensures bare { IfErr result (λ e. IsMemory e → IsBare e) }
         ensures left { IsLeft (seat_in P.parsing self.old) (seat_in P.parsing self.new) }
         ensures fewer { IfOk result (λ event. IsSome event → (seat_in P.parsing self.new).left < (seat_in P.parsing self.old).left) }
         ensures cause { IfErr result (λ e. HasSource (told_error e) (seat_in P.parsing self.old) (seat_in P.parsing self.new)) }
     {
         match self.next_event() {
             Ok(event) => Ok(event),
-            Err(error) => Err(DeserializeError::from(error)),
+            Err(error) => Err(finish_error(error)),
         }
     }
 

@@ -4,20 +4,22 @@ ghost use Rattle.semantics.specs.Reading.{from_events};
 ghost use Rattle.event_core.specs.Faults.{fault_of};
 ghost use Rattle.shape_types.specs.Shapes.{registry};
 ghost use Rattle.shape_types.specs.Trees.{tree_of};
-ghost use Rattle.laws_machine.specs.Machine.{machine};
-ghost use Rattle.read_steps.specs.Stops.{told_stop, Gives};
+ghost use Rattle.laws_causes.specs.Stopping.{stopping};
+ghost use Rattle.read_steps.specs.Stops.{told_stop};
 ghost use Rattle.read_steps.specs.Tasks.{terms_of};
 ghost use Rattle.format_read.specs.Deserializers.{describes_in, seat_in};
-ghost use Rattle.format_read.specs.Deserializing.{setting, IsRead, Answers, IsCaused, IsMemory, IsStopError};
-ghost use Rattle.format_read.specs.Seats.{IsLeft, HasSource};
+ghost use Rattle.format_read.specs.Deserializing.{setting, IsRead, Answers, IsBare, IsCaused, IsExact, IsMemory, Keeps};
+ghost use Rattle.format_read.specs.Seats.{IsLeft, IsWithin, HasSource};
+ghost use Rattle.format_read.specs.Stopping.{GivesAt};
 
 use crate::deserializer::FormatDeserializer;
+use crate::deserializer::errors::error_of;
 use crate::deserializer::turn::Reading;
-use event_core::{DeserializeError, DeserializeErrorKind};
+use event_core::DeserializeError;
 use format_traits::FormatParser;
 use laws::reads_typed;
-use laws_machine::machine_reads_values;
-use laws_reading::{reading_fails, reading_means};
+use laws_causes::{stopping_fails, stopping_reads};
+use laws_reading::reading_means;
 use read_steps::{ReadStop, Task, await_value};
 use shape_core::{ShapeId, Value};
 
@@ -49,19 +51,29 @@ impl<'parser, 'input, 's, 'v, P: FormatParser<'input>, const BORROW: u8> FormatD
         // Whatever run comes first that is read as a value, it is answered, and no more is taken.
         ensures answers { IsTrue P.tells → Answers tree_of (setting (registry self.old.plans.now.shapes.now) (nat_eq BORROW 1) (describes_in P.parsing self.old)) self.old.depth root.0 (seat_in P.parsing self.old).input (seat_in P.parsing self.new).input result }
 
-        // Each refusal has its cause in the events that were to come.
-        ensures caused { IsTrue P.tells → IfErr result (IsCaused (setting (registry self.old.plans.now.shapes.now) (nat_eq BORROW 1) (describes_in P.parsing self.old)) self.old.depth root.0 (seat_in P.parsing self.old).input) }
+        // What is answered is settled by the events that were to come.
+        ensures exact { IsTrue P.tells → IsExact tree_of (setting (registry self.old.plans.now.shapes.now) (nat_eq BORROW 1) (describes_in P.parsing self.old)) self.old.depth root.0 (seat_in P.parsing self.old).input (seat_in P.parsing self.new).input result }
 
-        // What comes afterwards is the end of what was to come.
+        // Each refusal has its cause in the events that were taken and the one that was looked at.
+        ensures caused { IsTrue P.tells → IfErr result (IsCaused (setting (registry self.old.plans.now.shapes.now) (nat_eq BORROW 1) (describes_in P.parsing self.old)) self.old.depth root.0 (seat_in P.parsing self.old).input (seat_in P.parsing self.new).input) }
+
+        // What comes afterwards is the end of what was to come, behind the events that were taken.
+        ensures kept { IsTrue P.tells → Keeps (seat_in P.parsing self.old).input (seat_in P.parsing self.new).input result }
         ensures left { IsLeft (seat_in P.parsing self.old) (seat_in P.parsing self.new) }
+
+        // No more events were read beyond the last one taken than may be read ahead.
+        ensures ahead { IsWithin (seat_in P.parsing self.old) → IsWithin (seat_in P.parsing self.new) }
+
+        // Want of memory has no place.
+        ensures bare { IfErr result (λ e. IsMemory e → IsBare e) }
 
         // A parser's fault is answered only where its count of faults rose.
         ensures cause { IfErr result (λ e. IsMemory e ⊎ HasSource (Some (fault_of e)) (seat_in P.parsing self.old) (seat_in P.parsing self.new)) }
     {
         reading_means();
-        reading_fails();
         reads_typed();
-        machine_reads_values();
+        stopping_reads();
+        stopping_fails();
         let plans = self.plans;
         let task = Task {
             alloc: self.alloc,
@@ -84,7 +96,7 @@ impl<'parser, 'input, 's, 'v, P: FormatParser<'input>, const BORROW: u8> FormatD
         task: &Task<'_, '_>,
         root: ShapeId,
     ) -> Result<Value<'input>, ReadStop<'input>>
-        ensures exact { IsTrue P.tells → Gives told_stop (λ v. (tree_of v, (seat_in P.parsing self.new).input)) result (machine (terms_of task.now) self.old.depth root.0 from_events (seat_in P.parsing self.old).input) }
+        ensures exact { IsTrue P.tells → GivesAt told_stop tree_of (seat_in P.parsing self.new).input result (stopping (terms_of task.now) self.old.depth root.0 from_events (seat_in P.parsing self.old).input) }
         ensures left { IsLeft (seat_in P.parsing self.old) (seat_in P.parsing self.new) }
         ensures cause { IfErr result (λ e. HasSource (told_stop e) (seat_in P.parsing self.old) (seat_in P.parsing self.new)) }
     {
@@ -92,19 +104,5 @@ impl<'parser, 'input, 's, 'v, P: FormatParser<'input>, const BORROW: u8> FormatD
         await_value(task, &mut reading.frames, root, self.depth, self.last)?;
         'events: while self.turn(task, &mut reading)? {}
         Ok(reading.finish())
-    }
-}
-
-/// The stop as an error.
-fn error_of<'e>(stop: ReadStop<'e>) -> DeserializeError<'e>
-    ensures { IsStopError (told_stop stop.entry) result }
-{
-    match stop {
-        ReadStop::Alloc => DeserializeError {
-            span: None,
-            path: None,
-            kind: DeserializeErrorKind::Alloc { operation: "value" },
-        },
-        ReadStop::Fault(error) => error.into_inner(),
     }
 }

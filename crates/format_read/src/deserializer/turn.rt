@@ -6,11 +6,12 @@ ghost use Rattle.event_core.specs.Events.{event_of};
 ghost use Rattle.event_core.specs.Metadata.{span_view};
 ghost use Rattle.laws_machine.specs.Steps.{step_at};
 ghost use Rattle.laws_reading.specs.Values.{Terms};
-ghost use Rattle.read_steps.specs.Stops.{told_stop, IsFault, Fails, Gives, IsOwn};
+ghost use Rattle.read_steps.specs.Stops.{told_stop, IsFault, Gives, IsOwn};
 ghost use Rattle.read_steps.specs.Tasks.{terms_of};
 ghost use Rattle.read_steps.specs.Views.{frames_of};
 ghost use Rattle.format_read.specs.Deserializers.{seat_in};
 ghost use Rattle.format_read.specs.Seats.{IsLeft, HasSource};
+ghost use Rattle.format_read.specs.Stopping.{GivesAt, StopsAt};
 ghost use Rattle.format_read.specs.Taking.{HasNext};
 ghost use Rattle.format_read.specs.Turning.{status_in, turn_at, IsAdmitted, StandsAt};
 
@@ -95,7 +96,7 @@ impl<'parser, 'input, 's, 'v, P: FormatParser<'input>, const BORROW: u8> FormatD
         reading: &mut Reading<'input>,
     ) -> Result<bool, ReadStop<'input>>
         requires { reading.old.value ≡ None }
-        ensures exact { IsTrue P.tells → Gives told_stop (λ more. (status_in (terms_of task.now) reading.new, (seat_in P.parsing self.new).input)) result (turn_at (terms_of task.now) (frames_of (terms_of task.now) reading.old.frames) (seat_in P.parsing self.old).input) }
+        ensures exact { IsTrue P.tells → GivesAt told_stop (λ more. status_in (terms_of task.now) reading.new) (seat_in P.parsing self.new).input result (turn_at (terms_of task.now) (frames_of (terms_of task.now) reading.old.frames) (seat_in P.parsing self.old).input) }
         ensures more { IfOk result (λ more. more ≡ is_none reading.new.value) }
         ensures stands { IfErr result (λ e. StandsAt (told_stop e) (seat_in P.parsing self.new).input.last) }
         ensures left { IsLeft (seat_in P.parsing self.old) (seat_in P.parsing self.new) }
@@ -118,7 +119,7 @@ impl<'parser, 'input, 's, 'v, P: FormatParser<'input>, const BORROW: u8> FormatD
         ensures next { OnOk result (HasNext self.new.queue) }
         ensures admitted { OnOk result (IsAdmitted (terms_of task.now) (frames_of (terms_of task.now) frames.now) self.new.queue.ahead) }
         ensures same { OnOk result ((seat_in P.parsing self.new).input ≡ (seat_in P.parsing self.old).input) }
-        ensures fault { IsTrue P.tells → IfErr result (λ e. Fails (told_stop e) (turn_at (terms_of task.now) (frames_of (terms_of task.now) frames.now) (seat_in P.parsing self.old).input)) }
+        ensures fault { IsTrue P.tells → IfErr result (λ e. StopsAt (told_stop e) (seat_in P.parsing self.new).input (turn_at (terms_of task.now) (frames_of (terms_of task.now) frames.now) (seat_in P.parsing self.old).input)) }
         ensures stands { IfErr result (λ e. StandsAt (told_stop e) (seat_in P.parsing self.new).input.last) }
         ensures left { IsLeft (seat_in P.parsing self.old) (seat_in P.parsing self.new) }
         ensures cause { IfErr result (λ e. HasSource (told_stop e) (seat_in P.parsing self.old) (seat_in P.parsing self.new)) }
@@ -145,7 +146,7 @@ impl<'parser, 'input, 's, 'v, P: FormatParser<'input>, const BORROW: u8> FormatD
     fn look(&self, task: &Task<'_, '_>, frames: &Frames<'input>) -> Result<(), ReadStop<'input>>
         requires { HasNext self.now.queue }
         ensures admitted { OnOk result (IsAdmitted (terms_of task.now) (frames_of (terms_of task.now) frames.now) self.now.queue.ahead) }
-        ensures fault { IsTrue P.tells → IfErr result (λ e. Fails (told_stop e) (turn_at (terms_of task.now) (frames_of (terms_of task.now) frames.now) (seat_in P.parsing self.now).input)) }
+        ensures fault { IsTrue P.tells → IfErr result (λ e. StopsAt (told_stop e) (seat_in P.parsing self.now).input (turn_at (terms_of task.now) (frames_of (terms_of task.now) frames.now) (seat_in P.parsing self.now).input)) }
         ensures stands { IfErr result (λ e. StandsAt (told_stop e) (seat_in P.parsing self.now).input.last) }
         ensures own { IfErr result (λ e. IsOwn (told_stop e)) }
     {
@@ -172,7 +173,7 @@ impl<'parser, 'input, 's, 'v, P: FormatParser<'input>, const BORROW: u8> FormatD
         requires next { HasNext self.old.queue }
         requires admitted { IsAdmitted (terms_of task.now) (frames_of (terms_of task.now) reading.old.frames) self.old.queue.ahead }
         requires going { reading.old.value ≡ None }
-        ensures exact { IsTrue P.tells → Gives told_stop (λ more. (status_in (terms_of task.now) reading.new, (seat_in P.parsing self.new).input)) result (turn_at (terms_of task.now) (frames_of (terms_of task.now) reading.old.frames) (seat_in P.parsing self.old).input) }
+        ensures exact { IsTrue P.tells → GivesAt told_stop (λ more. status_in (terms_of task.now) reading.new) (seat_in P.parsing self.new).input result (turn_at (terms_of task.now) (frames_of (terms_of task.now) reading.old.frames) (seat_in P.parsing self.old).input) }
         ensures more { IfOk result (λ more. more ≡ is_none reading.new.value) }
         ensures stands { IfErr result (λ e. StandsAt (told_stop e) (seat_in P.parsing self.new).input.last) }
         ensures left { IsLeft (seat_in P.parsing self.old) (seat_in P.parsing self.new) }

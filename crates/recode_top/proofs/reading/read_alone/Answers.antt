@@ -15,7 +15,7 @@ returns-in-Err-clause-found c =
 pub returns-in-Err-clause-refused : goal.returns-in-Err-clause-refused
 returns-in-Err-clause-refused c =
     refused_value (tape_setting (registry c.args.reader.now.plans.now.shapes.now)) c.args.root.0 c.args.reader.now.depth (seat_in parsing_of c.args.reader.now).input
-    c.in-Err.error c.refused.result c.refused.ensures (c.in-Err.ensures.caused refl)
+    c.in-Err.error c.refused.result c.refused.ensures (seat_in parsing_of c.deserialize_value.new.self).input (c.in-Err.ensures.caused refl)
 
 pub returns-in-Ok-Some-clause-found : goal.returns-in-Ok-Some-clause-found
 returns-in-Ok-Some-clause-found c =

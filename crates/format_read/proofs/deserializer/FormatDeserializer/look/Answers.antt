@@ -14,4 +14,4 @@ returns-then-leaves-clause-fault g c tells =
     let now = c.args.self.now in
     let terms = terms_of c.args.task.now in
     left_fails parser.tells (told_stop c.refuse_left.result) terms (frames_of terms c.args.frames.now) c.in-Some.event.now (parser.parsing now.parser.now) (owner_of now) now.queue now.last
-    ((g.met.P.FormatParser c.lifetimes claim).told now.parser.now) c.requires.capacity c.in-Some.ensures c.refuse_left.ensures.exact tells
+    ((g.met.P.FormatParser c.lifetimes claim).told now.parser.now) c.requires.capacity c.in-Some.ensures c.leaves.result c.leaves.ensures c.if-leaves.true c.refuse_left.ensures.exact tells
