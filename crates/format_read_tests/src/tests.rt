@@ -18,7 +18,8 @@ use std::alloc::Global;
 use std::process::Abort;
 use std::test::*;
 use told::{
-    NUMBERS_EVENTS, POINT_EVENTS, POINTS_EVENTS, SINGLE_EVENTS, TEXT_EVENTS, Word, events, span_at,
+    ARRAY_EVENTS, NUMBERS_EVENTS, POINT_EVENTS, POINTS_EVENTS, SINGLE_EVENTS, TEXT_EVENTS, Word,
+    events, span_at,
 };
 
 /// Where the input is broken, behind all events.
@@ -99,6 +100,23 @@ fn a_value_is_read_and_no_more(rt: HostRuntime) -> Result<(), Fail> {
 }
 
 #[test]
+fn what_stands_behind_a_refused_event_comes_next(rt: HostRuntime) -> Result<(), Fail> {
+    let alloc = rt.alloc();
+    let shapes = shapes(alloc)?;
+    let plans = plans_with(alloc, &shapes, POINT)?;
+    let mut parser = Listed::new(alloc, events(alloc, &SINGLE_EVENTS, 3)?, Behind::End);
+    let mut reader = FormatDeserializer::new(alloc, &mut parser, &plans, 128);
+    let refused = Outcome::Refused(Refusal {
+        cause: Cause::Other,
+        span: Some(span_at(0)),
+        part: Part::Other,
+    });
+    assert_eq!(rt; outcome_of(alloc, &mut reader, POINT)?, refused);
+    assert_eq!(rt; next_of(alloc, &mut reader)?, Next::Number(2, span_at(1)));
+    Ok(())
+}
+
+#[test]
 fn the_parser_is_lent_and_given_back(rt: HostRuntime) -> Result<(), Fail> {
     let alloc = rt.alloc();
     let shapes = shapes(alloc)?;
@@ -153,6 +171,24 @@ fn a_batch_has_as_many_events_as_the_capacity(rt: HostRuntime) -> Result<(), Fai
         };
         is_given(&rt, rt.alloc(), U64, input, capacity, capacity)?;
     }
+    Ok(())
+}
+
+#[test]
+fn the_start_of_an_object_is_told_by_its_container(rt: HostRuntime) -> Result<(), Fail> {
+    let input = Input {
+        words: &ARRAY_EVENTS,
+        count: 2,
+        behind: Behind::End,
+        capacity: 1,
+    };
+    let want = Refusal {
+        cause: Cause::ArrayStart,
+        span: Some(span_at(0)),
+        part: Part::Other,
+    };
+    let answers = ask(rt.alloc(), NUMBERS, input)?;
+    assert_eq!(rt; answers.first, Outcome::Refused(want));
     Ok(())
 }
 

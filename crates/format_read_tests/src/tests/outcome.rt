@@ -10,7 +10,7 @@ use event_core::{
     ScalarValue, Span,
 };
 use format_read::FormatDeserializer;
-use shape_core::{OutOfMemory, ShapeId, Value};
+use shape_core::{OutOfMemory, ShapeId, Text, Value};
 use std::alloc::Global;
 use std::test::Fail;
 
@@ -23,6 +23,8 @@ pub enum Cause {
     Io,
     UnexpectedEof,
     ParseFailed,
+    /// The start of an array, where a sequence has to come.
+    ArrayStart,
     Other,
 }
 
@@ -80,8 +82,16 @@ fn cause_of(kind: &DeserializeErrorKind<'_>) -> Cause {
             kind: ReflectErrorKind::ParseFailed { shape: _, text: _ },
             context: _,
         } => Cause::ParseFailed,
+        DeserializeErrorKind::UnexpectedToken { got, expected } => unexpected(got, *expected),
         _ => Cause::Other,
     }
+}
+
+fn unexpected(got: &Text<'_>, expected: &str) -> Cause {
+    if got.as_str() == "array" && expected == "array" {
+        return Cause::ArrayStart;
+    }
+    Cause::Other
 }
 
 fn part_of(alloc: Global, error: &DeserializeError<'_>) -> Result<Part, Fail> {

@@ -11,6 +11,8 @@ use std::test::Fail;
 #[derive(Clone, Copy)]
 pub enum Word {
     Open,
+    /// The start of an object that says it is an array.
+    OpenArray,
     Close,
     Begin,
     End,
@@ -78,9 +80,13 @@ pub const SINGLE_EVENTS: [Word; 5] = [
 /// The events of a point up to a text in place of its field `x`.
 pub const TEXT_EVENTS: [Word; 3] = [Word::Open, Word::Key("x"), Word::Text("q")];
 
+/// The events of an object that says it is an array.
+pub const ARRAY_EVENTS: [Word; 2] = [Word::OpenArray, Word::Close];
+
 fn kind_of<'de>(word: Word) -> ParseEventKind<'de> {
     match word {
         Word::Open => ParseEventKind::StructStart(ContainerKind::Object),
+        Word::OpenArray => ParseEventKind::StructStart(ContainerKind::Array),
         Word::Close => ParseEventKind::StructEnd,
         Word::Begin => ParseEventKind::SequenceStart(ContainerKind::Array),
         Word::End => ParseEventKind::SequenceEnd,
