@@ -1,11 +1,11 @@
 -- The table of setters at work: rows whose answers are known.
-use Rattle.std.proofs.Common.{◌≡◌, ℕ, ℤ, List, negsuc, true, false, Ok, Err, refl, [], Some, None}
+use Rattle.std.proofs.Common.{◌≡◌, ℕ, List, negsuc, true, false, Ok, Err, refl, [], Some, None}
 use Rattle.std.specs.Prelude.{codes}
 use Rattle.std.specs.Fmt.{digits}
 use Rattle.semantics_lines.specs.Trees.{unsigned, signed, bool_value, text}
 use Rattle.semantics_lines.specs.Shapes.{bits8, bits64, bits128, unsigned_type, signed_type, bool_type, string_type, str_type}
 use Rattle.semantics_lines.specs.Events.{u64, i64, bool, null, str}
-use Rattle.semantics_lines.specs.Faults.{ShapeLabel, number_out_of_range, cannot_borrow, reflect, parse_failed, wrong_kind}
+use Rattle.semantics_lines.specs.Faults.{ShapeLabel, number_out_of_range, cannot_borrow, reflect, wrong_kind}
 use Rattle.semantics.specs.Numerals.{unsigned_text, signed_text}
 use Rattle.semantics.specs.Setters.{set_scalar}
 
