@@ -5,6 +5,12 @@ pub mod Texts
 pub mod Escapes
 pub mod LineEnds
 pub mod OneTape
+pub mod Fronts
+pub mod Numbers
+pub mod Hex
+pub mod Plain
+pub mod Quotes
+pub mod Characters
 pub mod ShapeLineParts
 pub mod ShapeLineLaws
 pub mod Divisions

@@ -7,8 +7,15 @@ use Rattle.std.proofs.lemmas.Bool.Decides.{nat_tests}
 use Rattle.semantics_lines.specs.Lines.{quoted}
 use Rattle.semantics_lines.specs.Shapes.{SkipRule, skip_never, skip_always, skip_none, skip_empty, skip_default, MetaKind, span_meta, doc_meta, tag_meta, TagKind, by_name, by_unsigned, by_signed, EnumForm, external, internal, adjacent, numeric, untagged, cow}
 use Rattle.semantics_lines.specs.ShapeLines.{is_name, Head, option_head, list_head, set_head, transparent_head, result_head, map_head, array_head, unit_head, tuple_head, struct_head, enum_head, Literal, unit_literal, bool_literal, char_literal, unsigned_literal, signed_literal, text_literal, none_literal, empty_literal, own_literal, FieldLine, Body, no_body, item_body, field_body, VariantLine, ShapeLine, head_line, item_line, field_line, variant_line, flag_words, text_words, tag_words, form_words, pair_words, head_words, literal_words, default_words, skip_words, meta_words, attribute_words, body_words, discriminant_words, spelling, head_references, fits_half, literal_fits, default_fits, discriminant_fits, head_fits, has_parts}
-use Rattle.laws_lines.specs.ShapeLineReading.{strip, or_else, word_at, behind, whole, attribute, flag_at, name_at, names_at, below, number_at, signed_at, quoted_at, quotes_at, char_at, tag_kind_of, over_one, over_two, array_behind, array_of, bare_of, struct_behind, struct_of, untagged_form, internal_form, adjacent_form, form_of, enum_of, head_of, plain_literal, told_literal, worded_literal, literal_at, skip_at, meta_at, attributed, field_of, body_at, variant_behind, variant_of, head_line_of, item_line_of, field_line_of, variant_line_of, line_of}
-use Rattle.laws_lines.proofs.ShapeLineParts.{EndsWord, and-both, and-parts, and_then-some, mapped, or-some, chosen, same_bytes, strip-takes, Takes, behind-takes, ended-some, whole-takes, whole-again, word-takes, suffixed, all_fit, attribute-takes, attribute-none, attribute-some, attribute-again, skips, flag-takes, flag-again, skips_flag, as_it_stands, name-takes, name-again, two_names, are_names, names-takes, names-again, is_wide, number_at-takes, number_at-again, IsHalf, signed_at-takes, signed_at-again, any_text, quoted-takes, quoted-again, two_quotes, any_texts, quotes-takes, quotes-again, is_char, quoted_char, char-takes, char-again}
+use Rattle.laws_lines.specs.Fronts.{strip, number_at, signed_at}
+use Rattle.laws_lines.specs.Quoted.{quoted_at, char_at}
+use Rattle.laws_lines.specs.ShapeLineReading.{or_else, word_at, behind, whole, attribute, flag_at, name_at, names_at, below, quotes_at, tag_kind_of, over_one, over_two, array_behind, array_of, bare_of, struct_behind, struct_of, untagged_form, internal_form, adjacent_form, form_of, enum_of, head_of, plain_literal, told_literal, worded_literal, literal_at, skip_at, meta_at, attributed, field_of, body_at, variant_behind, variant_of, head_line_of, item_line_of, field_line_of, variant_line_of, line_of}
+use Rattle.laws_lines.proofs.Tests.{both, is_both, mapped, bound}
+use Rattle.laws_lines.proofs.Fronts.{strip-takes, EndsWord}
+use Rattle.laws_lines.proofs.Numbers.{number_at-takes, number_at-again, half_of_64, half_of_128, signed_at-takes, signed_at-again}
+use Rattle.laws_lines.proofs.Quotes.{quoted-again}
+use Rattle.laws_lines.proofs.Characters.{char_at-takes, char_at-again}
+use Rattle.laws_lines.proofs.ShapeLineParts.{or-some, chosen, same_bytes, Takes, behind-takes, ended-some, whole-takes, whole-again, word-takes, suffixed, all_fit, attribute-takes, attribute-none, attribute-some, attribute-again, skips, flag-takes, flag-again, skips_flag, as_it_stands, name-takes, name-again, two_names, are_names, names-takes, names-again, is_wide, any_text, quote-takes, two_quotes, any_texts, quotes-takes, quotes-again, is_char, quoted_char}
 
 -- what is said of a shape is spelled so
 record SaysHead (t : List ℕ) (h : Head) : Type 0 where
@@ -25,15 +32,15 @@ one_says : (w t : List ℕ) (make : List ℕ → Head) → ((n : List ℕ) → h
 one_says w t make refers fits words h e =
     let m = mapped make (whole w name_at t) h e in
     let x = whole-takes w name_at as_it_stands is_name name-takes t m.0 m.1 in
-    subst (λ (h : Head). SaysHead t h) m.2 (record { names = ap (list_all is_name) (refers m.0) ∙ and-both (is_name m.0) true x.0 refl; fits = fits m.0; is = x.1 ∙ sym (words m.0) })
+    subst (λ (h : Head). SaysHead t h) m.2 (record { names = ap (list_all is_name) (refers m.0) ∙ both (is_name m.0) true x.0 refl; fits = fits m.0; is = x.1 ∙ sym (words m.0) })
 
 two_says : (w t : List ℕ) (make : List ℕ × List ℕ → Head) → ((p : List ℕ × List ℕ) → head_references (make p) ≡ p.0 ∷ p.1 ∷ []) → ((p : List ℕ × List ℕ) → head_fits (make p) ≡ true)
     → ((p : List ℕ × List ℕ) → head_words (make p) ≡ w ++ pair_words p.0 p.1) → (h : Head) → option_map make (whole w names_at t) ≡ Some h → SaysHead t h
 two_says w t make refers fits words h e =
     let m = mapped make (whole w names_at t) h e in
     let x = whole-takes w names_at two_names are_names names-takes t m.0 m.1 in
-    let n = and-parts (is_name m.0.0) (is_name m.0.1) x.0 in
-    subst (λ (h : Head). SaysHead t h) m.2 (record { names = ap (list_all is_name) (refers m.0) ∙ and-both (is_name m.0.0) (is_name m.0.1 && true) n.0 (and-both (is_name m.0.1) true n.1 refl); fits = fits m.0; is = x.1 ∙ sym (words m.0) })
+    let n = is_both (is_name m.0.0) (is_name m.0.1) x.0 in
+    subst (λ (h : Head). SaysHead t h) m.2 (record { names = ap (list_all is_name) (refers m.0) ∙ both (is_name m.0.0) (is_name m.0.1 && true) n.0 (both (is_name m.0.1) true n.1 refl); fits = fits m.0; is = x.1 ∙ sym (words m.0) })
 
 over_one-says : (t : List ℕ) (h : Head) → over_one t ≡ Some h → SaysHead t h
 unfolding over_one
@@ -52,15 +59,15 @@ over_two-says t =
 array-says : (t : List ℕ) (h : Head) → array_of t ≡ Some h → SaysHead t h
 unfolding array_of
 array-says t h e =
-    let a = and_then-some array_behind (behind (codes " array ") number_at t) h e in
-    let b = and_then-some (λ len. option_map (array_head len) (whole (codes " ") name_at a.0.1)) (below 32 a.0.0) h a.2 in
+    let a = bound array_behind (behind (codes " array ") (number_at 128) t) h e in
+    let b = bound (λ len. option_map (array_head len) (whole (codes " ") name_at a.0.1)) (below 32 a.0.0) h a.2 in
     let c = chosen (nat_lt a.0.0 (2 ^ 32)) a.0.0 b.0 b.1 in
     let m = mapped (array_head b.0) (whole (codes " ") name_at a.0.1) h b.2 in
-    let len = behind-takes (codes " array ") number_at decimal is_wide number_at-takes t a.0 a.1 in
+    let len = behind-takes (codes " array ") (number_at 128) decimal is_wide (number_at-takes 128) t a.0 a.1 in
     let name = whole-takes (codes " ") name_at as_it_stands is_name name-takes a.0.1 m.0 m.1 in
     let same : a.0.0 ≡ b.0 = c.1 in
     subst (λ (h : Head). SaysHead t h) m.2 (record {
-      names = and-both (is_name m.0) true name.0 refl;
+      names = both (is_name m.0) true name.0 refl;
       fits = ap (λ n. nat_lt n (2 ^ 32)) (sym same) ∙ c.0;
       is = len.1 ∙ ap (λ x. (codes " array " ++ decimal a.0.0) ++ x) name.1 ∙ append_assoc (codes " array ") (decimal a.0.0) (codes " " ++ m.0) ∙ ap (λ n. codes " array " ++ (decimal n ++ (codes " " ++ m.0))) same;
     })
@@ -87,7 +94,7 @@ bare-says t =
 struct-says : (t : List ℕ) (h : Head) → struct_of t ≡ Some h → SaysHead t h
 unfolding struct_of
 struct-says t h e =
-    let a = and_then-some struct_behind (strip (codes " struct") t) h e in
+    let a = bound struct_behind (strip (codes " struct") t) h e in
     let deny = flag_at (codes " deny") a.0 in
     let default = flag_at (codes " default") deny.1 in
     let container = flag_at (codes " container") default.1 in
@@ -134,16 +141,16 @@ untagged-takes t f e = by_tests (bytes_eq t (codes " external")) (bytes_eq t (co
 internal-takes : (t : List ℕ) (f : EnumForm) → internal_form t ≡ Some f → t ≡ form_words f
 unfolding internal_form
 internal-takes t f e =
-    let a = and_then-some (λ (p : List ℕ × List ℕ). option_map (internal p.0) (tag_kind_of p.1)) (behind (codes " internal ") quoted_at t) f e in
+    let a = bound (λ (p : List ℕ × List ℕ). option_map (internal p.0) (tag_kind_of p.1)) (behind (codes " internal ") quoted_at t) f e in
     let m = mapped (internal a.0.0) (tag_kind_of a.0.1) f a.2 in
-    (behind-takes (codes " internal ") quoted_at quoted any_text quoted-takes t a.0 a.1).1
+    (behind-takes (codes " internal ") quoted_at quoted any_text quote-takes t a.0 a.1).1
     ∙ ap (λ x. (codes " internal " ++ quoted a.0.0) ++ x) (tag_kind-takes a.0.1 m.0 m.1)
     ∙ append_assoc (codes " internal ") (quoted a.0.0) (tag_words m.0) ∙ ap form_words m.2
 
 adjacent-takes : (t : List ℕ) (f : EnumForm) → adjacent_form t ≡ Some f → t ≡ form_words f
 unfolding adjacent_form
 adjacent-takes t f e =
-    let a = and_then-some (λ (p : (List ℕ × List ℕ) × List ℕ). option_map (adjacent p.0.0 p.0.1) (tag_kind_of p.1)) (behind (codes " adjacent ") quotes_at t) f e in
+    let a = bound (λ (p : (List ℕ × List ℕ) × List ℕ). option_map (adjacent p.0.0 p.0.1) (tag_kind_of p.1)) (behind (codes " adjacent ") quotes_at t) f e in
     let m = mapped (adjacent a.0.0.0 a.0.0.1) (tag_kind_of a.0.1) f a.2 in
     (behind-takes (codes " adjacent ") quotes_at two_quotes any_texts quotes-takes t a.0 a.1).1
     ∙ ap (λ x. (codes " adjacent " ++ two_quotes a.0.0) ++ x) (tag_kind-takes a.0.1 m.0 m.1)
@@ -161,7 +168,7 @@ form-takes t f e = elim (or-some (untagged_form t) (or_else (internal_form t) (a
 enum-says : (t : List ℕ) (h : Head) → enum_of t ≡ Some h → SaysHead t h
 unfolding enum_of
 enum-says t h e =
-    let a = and_then-some (λ rest. option_map enum_head (form_of rest)) (strip (codes " enum") t) h e in
+    let a = bound (λ rest. option_map enum_head (form_of rest)) (strip (codes " enum") t) h e in
     let m = mapped enum_head (form_of a.0) h a.2 in
     subst (λ (h : Head). SaysHead t h) m.2 (record { names = refl; fits = refl; is = strip-takes (codes " enum") t a.0 a.1 ∙ ap (λ x. codes " enum" ++ x) (form-takes a.0 m.0 m.1) })
 
@@ -172,7 +179,7 @@ head-says t =
 
 -- the name alone
 first_name : (n : List ℕ) (more : List (List ℕ)) → list_all is_name (n ∷ more) ≡ true → (is_name n ≡ true) × (list_all is_name more ≡ true)
-first_name n more h = and-parts (is_name n) (list_all is_name more) h
+first_name n more h = is_both (is_name n) (list_all is_name more) h
 
 name_whole : (w n : List ℕ) → list_all is_name (n ∷ []) ≡ true → whole w name_at (w ++ n) ≡ Some n
 name_whole w n h = let x = (first_name n [] h).0 in whole-again w name_at n n (name-again n [] x tt)
@@ -210,7 +217,7 @@ array-again len shape h k =
     let small : len < 2 ^ 32 = grind (arith, nat_tests) in
     let below_wide : len < 2 ^ 128 = omega (arith, small) in
     let wide : is_wide len ≡ true = grind (arith, nat_tests) in
-    rw (number_at-again len (codes " " ++ shape) wide refl, k, name_whole (codes " ") shape h) refl
+    rw (number_at-again 128 len (codes " " ++ shape) (omega arith) wide refl, k, name_whole (codes " ") shape h) refl
 
 head-again : (h : Head) → list_all is_name (head_references h) ≡ true → head_fits h ≡ true → head_of (head_words h) ≡ Some h
 unfolding head_of over_one over_two array_of bare_of struct_of enum_of
@@ -261,29 +268,23 @@ either_told a b t p f g e = elim (or-some a b p e) [ inl x ↦ f x | inr y ↦ g
 worded-takes : Takes worded_literal literal_words literal_fits
 unfolding worded_literal
 worded-takes t p =
-    either_told _ _ t p (told-takes (codes "c ") char_at quoted_char is_char char_literal char-takes (λ x. refl) (λ x. refl) t p)
-    (either_told _ _ t p (told-takes (codes "u ") number_at decimal is_wide unsigned_literal number_at-takes (λ x. refl) (λ x. refl) t p)
-    (either_told _ _ t p (told-takes (codes "i ") (signed_at 127) signed_decimal (fits_half 127) signed_literal (signed_at-takes 127) (λ x. refl) (λ x. refl) t p)
-    (told-takes (codes "s ") quoted_at quoted any_text text_literal quoted-takes (λ x. refl) (λ x. refl) t p)))
+    either_told _ _ t p (told-takes (codes "c ") char_at quoted_char is_char char_literal char_at-takes (λ x. refl) (λ x. refl) t p)
+    (either_told _ _ t p (told-takes (codes "u ") (number_at 128) decimal is_wide unsigned_literal (number_at-takes 128) (λ x. refl) (λ x. refl) t p)
+    (either_told _ _ t p (told-takes (codes "i ") (signed_at 127 128) signed_decimal (fits_half 127) signed_literal (signed_at-takes 127 128) (λ x. refl) (λ x. refl) t p)
+    (told-takes (codes "s ") quoted_at quoted any_text text_literal quote-takes (λ x. refl) (λ x. refl) t p)))
 
 literal-takes : Takes literal_at literal_words literal_fits
 unfolding literal_at
 literal-takes t p e = either_told (plain_literal t) (worded_literal t) t p (plain-takes t p) (worded-takes t p) e
-
-half_127 : IsHalf 127
-half_127 = record { few = omega arith; bound = omega arith }
-
-half_63 : IsHalf 63
-half_63 = record { few = omega arith; bound = omega arith }
 
 literal-again : (l : Literal) (rest : List ℕ) → literal_fits l ≡ true → EndsWord rest → literal_at (literal_words l ++ rest) ≡ Some (l, rest)
 unfolding literal_at plain_literal worded_literal
 literal-again unit_literal rest h e = refl
 literal-again (bool_literal true) rest h e = refl
 literal-again (bool_literal false) rest h e = refl
-literal-again (char_literal c) rest h e = rw (char-again c rest h) refl
-literal-again (unsigned_literal n) rest h e = rw (number_at-again n rest h e) refl
-literal-again (signed_literal z) rest h e = rw (signed_at-again 127 z rest half_127 h e) refl
+literal-again (char_literal c) rest h e = rw (char_at-again c rest h) refl
+literal-again (unsigned_literal n) rest h e = rw (number_at-again 128 n rest (omega arith) h e) refl
+literal-again (signed_literal z) rest h e = rw (signed_at-again 127 128 z rest half_of_128 h e) refl
 literal-again (text_literal text) rest h e = rw (quoted-again text rest) refl
 literal-again none_literal rest h e = refl
 literal-again empty_literal rest h e = refl
@@ -418,8 +419,8 @@ attributed-says name shape t f e =
     let metadata = attribute (codes " meta ") meta_at flattened.1 in
     let made : FieldLine = record { name = name; shape = shape; rename = rename.0; alias = alias.0; default = default.0; skip = unwrap_or skip.0 skip_never; flattened = flattened.0; metadata = metadata.0 } in
     let x = ended-some (made, metadata.1) f e in
-    let a = attribute-takes (codes " rename ") quoted_at quoted any_text quoted-takes t in
-    let b = attribute-takes (codes " alias ") quoted_at quoted any_text quoted-takes rename.1 in
+    let a = attribute-takes (codes " rename ") quoted_at quoted any_text quote-takes t in
+    let b = attribute-takes (codes " alias ") quoted_at quoted any_text quote-takes rename.1 in
     let c = attribute-takes (codes " default ") literal_at literal_words literal_fits literal-takes alias.1 in
     let d = attribute-takes (codes " skip ") skip_at rule_word skips_some skip-takes default.1 in
     let g = attribute-takes (codes " meta ") meta_at kind_word any_kind meta-takes flattened.1 in
@@ -436,7 +437,7 @@ attributed-says name shape t f e =
 field-says : (t : List ℕ) (f : FieldLine) → field_of t ≡ Some f → SaysField t f
 unfolding field_of
 field-says t f e =
-    let a = and_then-some (λ (p : (List ℕ × List ℕ) × List ℕ). attributed p.0.0 p.0.1 p.1) (names_at t) f e in
+    let a = bound (λ (p : (List ℕ × List ℕ) × List ℕ). attributed p.0.0 p.0.1 p.1) (names_at t) f e in
     let n = names-takes t a.0 a.1 in
     let x = attributed-says a.0.0.0 a.0.0.1 a.0.1 f a.2 in
     record {
@@ -573,11 +574,11 @@ behind-says : (name : List ℕ) (body : Body) (t : List ℕ) (v : VariantLine) �
 unfolding variant_behind
 behind-says name body t v e =
     let rename = attribute (codes " rename ") quoted_at t in
-    let disc = attribute (codes " disc ") (signed_at 63) rename.1 in
+    let disc = attribute (codes " disc ") (signed_at 63 64) rename.1 in
     let made : VariantLine = record { name = name; body = body; rename = rename.0; discriminant = disc.0 } in
     let x = ended-some (made, disc.1) v e in
-    let a = attribute-takes (codes " rename ") quoted_at quoted any_text quoted-takes t in
-    let b = attribute-takes (codes " disc ") (signed_at 63) signed_decimal (fits_half 63) (signed_at-takes 63) rename.1 in
+    let a = attribute-takes (codes " rename ") quoted_at quoted any_text quote-takes t in
+    let b = attribute-takes (codes " disc ") (signed_at 63 64) signed_decimal (fits_half 63) (signed_at-takes 63 64) rename.1 in
     let m : rename.1 ≡ discriminant_words disc.0 = b.1 ∙ ap (λ y. suffixed (codes " disc ") signed_decimal disc.0 ++ y) x.1 ∙ append-nil (suffixed (codes " disc ") signed_decimal disc.0) ∙ sym (discriminant_suffixed disc.0) in
     subst (λ (v : VariantLine). (v.name ≡ name) × (v.body ≡ body) × (discriminant_fits v.discriminant ≡ true) × (t ≡ text_words (codes " rename ") v.rename ++ discriminant_words v.discriminant)) x.0
     (refl, refl, discriminant_all disc.0 ∙ b.0, a.1 ∙ ap (λ y. y ++ rename.1) (sym (text_suffixed (codes " rename ") rename.0)) ∙ ap (λ y. text_words (codes " rename ") rename.0 ++ y) m)
@@ -585,8 +586,8 @@ behind-says name body t v e =
 variant-says : (t : List ℕ) (v : VariantLine) → variant_of t ≡ Some v → SaysVariant t v
 unfolding variant_of
 variant-says t v e =
-    let a = and_then-some (λ (p : List ℕ × List ℕ). option_and_then (λ (q : Body × List ℕ). variant_behind p.0 q.0 q.1) (body_at p.1)) (name_at t) v e in
-    let b = and_then-some (λ (q : Body × List ℕ). variant_behind a.0.0 q.0 q.1) (body_at a.0.1) v a.2 in
+    let a = bound (λ (p : List ℕ × List ℕ). option_and_then (λ (q : Body × List ℕ). variant_behind p.0 q.0 q.1) (body_at p.1)) (name_at t) v e in
+    let b = bound (λ (q : Body × List ℕ). variant_behind a.0.0 q.0 q.1) (body_at a.0.1) v a.2 in
     let n = name-takes t a.0 a.1 in
     let w = body-takes a.0.1 b.0 b.1 in
     let x = behind-says a.0.0 b.0.0 b.0.1 v b.2 in
@@ -597,11 +598,11 @@ variant-says t v e =
           ∙ ap (λ y. y ++ (body_words v.body ++ (text_words (codes " rename ") v.rename ++ discriminant_words v.discriminant))) (sym x.0);
     }
 
-discriminant_read : (o : Option ℤ) → discriminant_fits o ≡ true → attribute (codes " disc ") (signed_at 63) (discriminant_words o) ≡ (o, [])
-discriminant_read None h = attribute-none (codes " disc ") (signed_at 63) [] refl
+discriminant_read : (o : Option ℤ) → discriminant_fits o ≡ true → attribute (codes " disc ") (signed_at 63 64) (discriminant_words o) ≡ (o, [])
+discriminant_read None h = attribute-none (codes " disc ") (signed_at 63 64) [] refl
 discriminant_read (Some z) h =
-    ap (attribute (codes " disc ") (signed_at 63)) (sym (append-nil (codes " disc " ++ signed_decimal z)))
-    ∙ attribute-some (codes " disc ") (signed_at 63) (signed_decimal z) [] z (signed_at-again 63 z [] half_63 h tt)
+    ap (attribute (codes " disc ") (signed_at 63 64)) (sym (append-nil (codes " disc " ++ signed_decimal z)))
+    ∙ attribute-some (codes " disc ") (signed_at 63 64) (signed_decimal z) [] z (signed_at-again 63 64 z [] half_of_64 h tt)
 
 no_disc : (w : List ℕ) (o : Option ℤ) → ((more : List ℕ) → strip w (codes " disc " ++ more) ≡ None) → strip w [] ≡ None → strip w (discriminant_words o) ≡ None
 no_disc w None h n = n
@@ -625,12 +626,12 @@ IsSaid t l = (has_parts l ≡ true) × (t ≡ spelling l)
 head_line-takes : (t : List ℕ) (l : ShapeLine) → head_line_of t ≡ Some l → IsSaid t l
 unfolding head_line_of
 head_line-takes t l e =
-    let a = and_then-some (λ (p : List ℕ × List ℕ). option_map (head_line p.0) (head_of p.1)) (behind (codes "shape ") name_at t) l e in
+    let a = bound (λ (p : List ℕ × List ℕ). option_map (head_line p.0) (head_of p.1)) (behind (codes "shape ") name_at t) l e in
     let m = mapped (head_line a.0.0) (head_of a.0.1) l a.2 in
     let n = behind-takes (codes "shape ") name_at as_it_stands is_name name-takes t a.0 a.1 in
     let h = head-says a.0.1 m.0 m.1 in
     subst (λ (l : ShapeLine). IsSaid t l) m.2 (
-      and-both (is_name a.0.0 && true) (list_all is_name (head_references m.0) && head_fits m.0) (and-both (is_name a.0.0) true n.0 refl) (and-both (list_all is_name (head_references m.0)) (head_fits m.0) h.names h.fits),
+      both (is_name a.0.0 && true) (list_all is_name (head_references m.0) && head_fits m.0) (both (is_name a.0.0) true n.0 refl) (both (list_all is_name (head_references m.0)) (head_fits m.0) h.names h.fits),
       n.1 ∙ ap (λ x. (codes "shape " ++ a.0.0) ++ x) h.is ∙ append_assoc (codes "shape ") a.0.0 (head_words m.0),
     )
 
@@ -639,17 +640,17 @@ unfolding item_line_of
 item_line-takes t l e =
     let m = mapped item_line (whole (codes "item ") name_at t) l e in
     let x = whole-takes (codes "item ") name_at as_it_stands is_name name-takes t m.0 m.1 in
-    subst (λ (l : ShapeLine). IsSaid t l) m.2 (and-both (is_name m.0 && true) true (and-both (is_name m.0) true x.0 refl) refl, x.1)
+    subst (λ (l : ShapeLine). IsSaid t l) m.2 (both (is_name m.0 && true) true (both (is_name m.0) true x.0 refl) refl, x.1)
 
 field_line-takes : (t : List ℕ) (l : ShapeLine) → field_line_of t ≡ Some l → IsSaid t l
 unfolding field_line_of
 field_line-takes t l e =
     let m = mapped field_line (option_and_then field_of (strip (codes "field ") t)) l e in
-    let a = and_then-some field_of (strip (codes "field ") t) m.0 m.1 in
+    let a = bound field_of (strip (codes "field ") t) m.0 m.1 in
     let f = field-says a.0 m.0 a.2 in
-    let n = and-parts (is_name m.0.name) (is_name m.0.shape) f.names in
+    let n = is_both (is_name m.0.name) (is_name m.0.shape) f.names in
     subst (λ (l : ShapeLine). IsSaid t l) m.2 (
-      and-both (is_name m.0.name && true) ((is_name m.0.shape && true) && default_fits m.0.default) (and-both (is_name m.0.name) true n.0 refl) (and-both (is_name m.0.shape && true) (default_fits m.0.default) (and-both (is_name m.0.shape) true n.1 refl) f.fits),
+      both (is_name m.0.name && true) ((is_name m.0.shape && true) && default_fits m.0.default) (both (is_name m.0.name) true n.0 refl) (both (is_name m.0.shape && true) (default_fits m.0.default) (both (is_name m.0.shape) true n.1 refl) f.fits),
       strip-takes (codes "field ") t a.0 a.1 ∙ ap (λ x. codes "field " ++ x) f.is,
     )
 
@@ -657,10 +658,10 @@ variant_line-takes : (t : List ℕ) (l : ShapeLine) → variant_line_of t ≡ So
 unfolding variant_line_of
 variant_line-takes t l e =
     let m = mapped variant_line (option_and_then variant_of (strip (codes "variant ") t)) l e in
-    let a = and_then-some variant_of (strip (codes "variant ") t) m.0 m.1 in
+    let a = bound variant_of (strip (codes "variant ") t) m.0 m.1 in
     let v = variant-says a.0 m.0 a.2 in
     subst (λ (l : ShapeLine). IsSaid t l) m.2 (
-      and-both (is_name m.0.name && true) (true && discriminant_fits m.0.discriminant) (and-both (is_name m.0.name) true v.name refl) v.fits,
+      both (is_name m.0.name && true) (true && discriminant_fits m.0.discriminant) (both (is_name m.0.name) true v.name refl) v.fits,
       strip-takes (codes "variant ") t a.0 a.1 ∙ ap (λ x. codes "variant " ++ x) v.is,
     )
 
@@ -689,16 +690,16 @@ head_ends (struct_head deny default container) = refl
 head_ends (enum_head form) = refl
 
 one_given : (n : List ℕ) (b : Bool) → (list_all is_name (n ∷ []) && b) ≡ true → (is_name n ≡ true) × (b ≡ true)
-one_given n b h = let p = and-parts (is_name n && true) b h in ((and-parts (is_name n) true p.0).0, p.1)
+one_given n b h = let p = is_both (is_name n && true) b h in ((is_both (is_name n) true p.0).0, p.1)
 
 -- The spelling of a line says what it does.
 pub line-again : (l : ShapeLine) → has_parts l ≡ true → line_of (spelling l) ≡ Some l
 unfolding line_of head_line_of item_line_of field_line_of variant_line_of
 line-again (head_line name head) h =
     let p = one_given name (list_all is_name (head_references head) && head_fits head) h in
-    let q = and-parts (list_all is_name (head_references head)) (head_fits head) p.1 in
+    let q = is_both (list_all is_name (head_references head)) (head_fits head) p.1 in
     rw (name-again name (head_words head) p.0 (head_ends head), head-again head q.0 q.1) refl
-line-again (item_line shape) h = let p = and-parts (is_name shape && true) true h in rw (name_whole (codes "item ") shape p.0) refl
+line-again (item_line shape) h = let p = is_both (is_name shape && true) true h in rw (name_whole (codes "item ") shape p.0) refl
 line-again (field_line f) h =
     let p = one_given f.name ((is_name f.shape && true) && default_fits f.default) h in
     let q = one_given f.shape (default_fits f.default) p.1 in

@@ -1,2 +1,4 @@
+pub mod Fronts
+pub mod Quoted
 pub mod ShapeLineReading
 pub mod Laws

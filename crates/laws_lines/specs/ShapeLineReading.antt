@@ -1,22 +1,10 @@
 -- A line of a shape text, read from the left: code that reads one is proved to give what this gives, and a law says that
 -- this is what the line says.
-use Rattle.std.specs.Prelude.{ℕ, ℤ, zero, suc, pos, negsuc, ◌^◌, nat_lt, ◌==◌, List, [], ◌∷◌, ◌++◌, Bool, true, false, ◌&&◌, cond, Option, None, Some, option_map, option_and_then, unwrap_or, codes, bytes_eq, encode_utf8}
-use Rattle.std.specs.Fmt.{decimal}
-use Rattle.std.specs.Str.{chars, all_scalars}
-use Rattle.std.specs.Str.Parse.{digits_value}
+use Rattle.std.specs.Prelude.{ℕ, ℤ, ◌^◌, nat_lt, List, [], Bool, true, false, cond, Option, None, Some, option_map, option_and_then, unwrap_or, codes, bytes_eq}
 use Rattle.semantics_lines.specs.Shapes.{SkipRule, skip_never, skip_always, skip_none, skip_empty, skip_default, MetaKind, span_meta, doc_meta, tag_meta, TagKind, by_name, by_unsigned, by_signed, EnumForm, external, internal, adjacent, numeric, untagged, cow}
 use Rattle.semantics_lines.specs.ShapeLines.{is_name, Head, option_head, list_head, set_head, transparent_head, result_head, map_head, array_head, unit_head, tuple_head, struct_head, enum_head, Literal, unit_literal, bool_literal, char_literal, unsigned_literal, signed_literal, text_literal, none_literal, empty_literal, own_literal, FieldLine, Body, no_body, item_body, field_body, VariantLine, ShapeLine, head_line, item_line, field_line, variant_line}
-
--- what stands behind a front, where it stands
-abbrev pub strip : List ℕ → List ℕ → Option (List ℕ)
-strip [] text = Some text
-strip (p ∷ ps) [] = None
-strip (p ∷ ps) (b ∷ bs) = cond (b == p) (strip ps bs) None
-
--- the bytes before the first space, and those from it on
-unfoldable pub until_space : List ℕ → List ℕ × List ℕ
-until_space [] = ([], [])
-until_space (b ∷ bs) = cond (b == 32) ([], b ∷ bs) (b ∷ (until_space bs).0, (until_space bs).1)
+use Rattle.laws_lines.specs.Fronts.{strip, until_space, number_at, signed_at}
+use Rattle.laws_lines.specs.Quoted.{quoted_at, char_at}
 
 -- the first of two answers that is there
 abbrev pub or_else : {A : Type 0} → Option A → Option A → Option A
@@ -64,70 +52,13 @@ name_at text = cond (is_name (until_space text).0) (Some (until_space text)) Non
 unfoldable pub names_at : List ℕ → Option ((List ℕ × List ℕ) × List ℕ)
 names_at text = option_and_then (λ p. option_map (λ q. ((p.0, q.0), q.1)) (behind (codes " ") name_at p.1)) (name_at text)
 
--- the number below 2 to the power of `bits` that is spelled so
-unfoldable pub number_of : ℕ → List ℕ → Option ℕ
-number_of bits text = cond (nat_lt (digits_value 10 text) (2 ^ bits) && bytes_eq (decimal (digits_value 10 text)) text) (Some (digits_value 10 text)) None
-
+-- a number of so many bits, where it fits
 abbrev pub below : ℕ → ℕ → Option ℕ
 below bits n = cond (nat_lt n (2 ^ bits)) (Some n) None
 
--- the number below 0 of this size, where it fits
-abbrev pub negative : ℕ → ℕ → Option ℤ
-negative half zero = None
-negative half (suc m) = cond (nat_lt m (2 ^ half)) (Some (negsuc m)) None
-
-abbrev pub positive : ℕ → ℕ → Option ℤ
-positive half n = cond (nat_lt n (2 ^ half)) (Some (pos n)) None
-
-abbrev pub signed_by : ℕ → List ℕ → Option (List ℕ) → Option ℤ
-signed_by half text None = option_and_then (positive half) (number_of 128 text)
-signed_by half text (Some digits) = option_and_then (negative half) (number_of 128 digits)
-
--- the number with a sign, within half of the bits, that is spelled so
-unfoldable pub signed_of : ℕ → List ℕ → Option ℤ
-signed_of half text = signed_by half text (strip (codes "-") text)
-
--- a number up to the end of the word
-unfoldable pub number_at : List ℕ → Option (ℕ × List ℕ)
-number_at text = option_map (λ n. (n, (until_space text).1)) (number_of 128 (until_space text).0)
-
-unfoldable pub signed_at : ℕ → List ℕ → Option (ℤ × List ℕ)
-signed_at half text = option_map (λ z. (z, (until_space text).1)) (signed_of half (until_space text).0)
-
--- the byte that a letter behind a backslash spells
-abbrev pub spelled : ℕ → Option ℕ
-spelled c = cond (c == 92) (Some 92) (cond (c == 34) (Some 34) (cond (c == 110) (Some 10) None))
-
-abbrev pub with_front : List ℕ → Option (List ℕ × List ℕ) → Option (List ℕ × List ℕ)
-with_front front None = None
-with_front front (Some p) = Some (front ++ p.0, p.1)
-
-abbrev pub with_spelled : Option ℕ → Option (List ℕ × List ℕ) → Option (List ℕ × List ℕ)
-with_spelled None later = None
-with_spelled (Some c) later = with_front (c ∷ []) later
-
--- the text up to a quote, and what stands behind that; the flag says that a backslash stands before
-unfoldable pub unquote : Bool → List ℕ → Option (List ℕ × List ℕ)
-unquote after_backslash [] = None
-unquote true (b ∷ bs) = with_spelled (spelled b) (unquote false bs)
-unquote false (b ∷ bs) = cond (b == 34) (Some ([], bs)) (cond (b == 92) (unquote true bs) (cond (b == 10) None (with_front (b ∷ []) (unquote false bs))))
-
--- a text between quotes
-unfoldable pub quoted_at : List ℕ → Option (List ℕ × List ℕ)
-quoted_at text = behind (34 ∷ []) (unquote false) text
-
--- two of them, a space between them
+-- two texts between quotes, a space between them
 unfoldable pub quotes_at : List ℕ → Option ((List ℕ × List ℕ) × List ℕ)
 quotes_at text = option_and_then (λ p. option_map (λ q. ((p.0, q.0), q.1)) (behind (codes " ") quoted_at p.1)) (quoted_at text)
-
--- the one character of a text
-abbrev pub only_of : List ℕ → List ℕ → Option ℕ
-only_of text (c ∷ []) = cond (all_scalars (c ∷ []) && bytes_eq (encode_utf8 c) text) (Some c) None
-only_of text _ = None
-
--- one character between quotes
-unfoldable pub char_at : List ℕ → Option (ℕ × List ℕ)
-char_at text = option_and_then (λ p. option_map (λ c. (c, p.1)) (only_of p.0 (chars p.0))) (quoted_at text)
 
 -- how a tag names its variant, up to the end
 unfoldable pub tag_kind_of : List ℕ → Option TagKind
@@ -145,7 +76,7 @@ abbrev pub array_behind : ℕ × List ℕ → Option Head
 array_behind p = option_and_then (λ len. option_map (array_head len) (whole (codes " ") name_at p.1)) (below 32 p.0)
 
 unfoldable pub array_of : List ℕ → Option Head
-array_of text = option_and_then array_behind (behind (codes " array ") number_at text)
+array_of text = option_and_then array_behind (behind (codes " array ") (number_at 128) text)
 
 -- a struct without names
 unfoldable pub bare_of : List ℕ → Option Head
@@ -189,7 +120,7 @@ abbrev pub told_literal : {A : Type 0} → (A → Literal) → Option (A × List
 told_literal make found = option_map (λ p. (make p.0, p.1)) found
 
 unfoldable pub worded_literal : List ℕ → Option (Literal × List ℕ)
-worded_literal text = or_else (told_literal char_literal (behind (codes "c ") char_at text)) (or_else (told_literal unsigned_literal (behind (codes "u ") number_at text)) (or_else (told_literal signed_literal (behind (codes "i ") (signed_at 127) text)) (told_literal text_literal (behind (codes "s ") quoted_at text))))
+worded_literal text = or_else (told_literal char_literal (behind (codes "c ") char_at text)) (or_else (told_literal unsigned_literal (behind (codes "u ") (number_at 128) text)) (or_else (told_literal signed_literal (behind (codes "i ") (signed_at 127 128) text)) (told_literal text_literal (behind (codes "s ") quoted_at text))))
 
 unfoldable pub literal_at : List ℕ → Option (Literal × List ℕ)
 literal_at text = or_else (plain_literal text) (worded_literal text)
@@ -223,7 +154,7 @@ variant_by name body rename discriminant = ended (record { name = name; body = b
 unfoldable pub variant_behind : List ℕ → Body → List ℕ → Option VariantLine
 variant_behind name body text =
     let rename = attribute (codes " rename ") quoted_at text in
-    variant_by name body rename (attribute (codes " disc ") (signed_at 63) rename.1)
+    variant_by name body rename (attribute (codes " disc ") (signed_at 63 64) rename.1)
 
 unfoldable pub variant_of : List ℕ → Option VariantLine
 variant_of text = option_and_then (λ p. option_and_then (λ q. variant_behind p.0 q.0 q.1) (body_at p.1)) (name_at text)
