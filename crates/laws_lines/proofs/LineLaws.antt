@@ -1,12 +1,11 @@
 -- The line of an event is read back as the event.
-use Rattle.std.proofs.Common.{◌≡◌, ◌≢◌, ℕ, ℤ, zero, suc, pos, negsuc, ◌+◌, ◌-◌, ◌*◌, ◌/◌, ◌%◌, ◌^◌, ◌<◌, ◌≤◌, List, [], ◌∷◌, ◌++◌, length, map, Bool, true, false, cond, ◌&&◌, Option, Some, None, option_map, refl, sym, ap, ◌∙◌, subst, inl, inr, arith, append_assoc, append-nil, length-append}
+use Rattle.std.proofs.Common.{◌≡◌, ℕ, ℤ, zero, suc, pos, negsuc, ◌+◌, ◌-◌, ◌*◌, ◌/◌, ◌%◌, ◌^◌, ◌<◌, ◌≤◌, List, [], ◌∷◌, ◌++◌, length, map, Bool, true, false, cond, ◌&&◌, Option, Some, None, option_map, refl, sym, ap, ◌∙◌, subst, arith, append_assoc, append-nil, length-append}
 use Rattle.std.specs.Prelude.{◌==◌, nat_lt, codes, encode_utf8, is_none}
 use Rattle.std.specs.List.{flat_map, list_all}
 use Rattle.std.specs.Char.{digit_value}
 use Rattle.std.specs.Fmt.{decimal, signed_decimal}
 use Rattle.std.specs.Str.{chars, all_scalars}
 use Rattle.std.specs.Str.Parse.{digits_value, AllDigits}
-use Rattle.std.proofs.lemmas.Bool.{cases_eq}
 use Rattle.std.proofs.lemmas.Bool.Decides.{nat_tests}
 use Rattle.std.proofs.lemmas.Fmt.{decimal_is_IsNumeral_wide}
 use Rattle.std.proofs.lemmas.Str.{chars-encodes, digit_value-digit_char}
@@ -14,31 +13,10 @@ use Rattle.std.proofs.lemmas.Str.Parse.{digit_from_value}
 use Rattle.semantics_lines.specs.Texts.{Phrase}
 use Rattle.semantics_lines.specs.Events.{Metadata, Note, Scalar, unit, null, bool, char, i64, u64, i128, u128, str, bytes, Key, named, nameless, ordered, scalar, key, tag, of_struct, of_sequence, object_kind, array_kind, Event, leaf, start, stop, owned_text, owned_metadata, owned_note, owned_scalar, owned_key, content_of}
 use Rattle.semantics_lines.specs.Lines.{escape, quoted, hex_digit, hex, number, magnitude, signed_number, character, after, bool_word, tag_body, tag_suffix, doc_suffix, suffix, is_empty_list, says_nothing, with_metadata, with_some, with_none, scalar_line, key_line, line_of}
-use Rattle.laws_lines.proofs.LineReader.{with_front, unquote, word_of, rest_of, strip, owned, tag_at, docs_at, metadata_at, suffix_at, noted, Make, made, texted, worded, scalar_made, signed_value, first_char, unhex, named_made, nameless_of, tag_made, by_word, rows, event_at}
-
--- a byte that stands for itself
-record IsOther (b : ℕ) : Type 0 where
-  pub no_slash : b ≢ 92
-  pub no_quote : b ≢ 34
-  pub no_end : b ≢ 10
-
-by_byte : (b : ℕ) (A : Type 0) → (b ≡ 92 → A) → (b ≡ 34 → A) → (b ≡ 10 → A) → (IsOther b → A) → A
-by_byte b A p q r s = elim (cases_eq b 92) [ inl e ↦ p e | inr x ↦ elim (cases_eq b 34) [ inl e ↦ q e | inr y ↦ elim (cases_eq b 10) [ inl e ↦ r e | inr z ↦ s (record { no_slash = x; no_quote = y; no_end = z }) ] ] ]
-
-escape-other : (b : ℕ) → IsOther b → escape b ≡ b ∷ []
-escape-other b h = let x = h.no_slash in let y = h.no_quote in let z = h.no_end in grind (arith, nat_tests)
-
-unquote-other : (b : ℕ) (l : List ℕ) → IsOther b → unquote false (b ∷ l) ≡ with_front (b ∷ []) (unquote false l)
-unfolding unquote
-unquote-other b l h = let x = h.no_slash in let y = h.no_quote in let z = h.no_end in grind (arith, nat_tests)
-
-unquote-again : (t rest : List ℕ) → unquote false (flat_map escape t ++ (34 ∷ rest)) ≡ Some (t, rest)
-unfolding unquote
-unquote-again [] rest = refl
-unquote-again (b ∷ t) rest =
-    let again : unquote false (flat_map escape t ++ (34 ∷ rest)) ≡ Some (t, rest) = unquote-again t rest in
-    by_byte b _ (λ e. (rw (e, again) refl)) (λ e. (rw (e, again) refl)) (λ e. (rw (e, again) refl))
-    (λ h. ap (λ front. unquote false ((front ++ flat_map escape t) ++ (34 ∷ rest))) (escape-other b h) ∙ unquote-other b (flat_map escape t ++ (34 ∷ rest)) h ∙ ap (with_front (b ∷ [])) again)
+use Rattle.laws_lines.specs.Fronts.{strip}
+use Rattle.laws_lines.specs.Quoted.{unquote}
+use Rattle.laws_lines.proofs.Quotes.{unquote-again}
+use Rattle.laws_lines.proofs.LineReader.{word_of, rest_of, owned, tag_at, docs_at, metadata_at, suffix_at, noted, Make, made, texted, worded, scalar_made, signed_value, first_char, unhex, named_made, nameless_of, tag_made, by_word, rows, event_at}
 
 -- a quoted text, behind its first quote
 unquote-quoted : (t rest : List ℕ) → unquote false ((flat_map escape t ++ (34 ∷ [])) ++ rest) ≡ Some (t, rest)

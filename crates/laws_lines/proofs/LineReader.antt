@@ -1,32 +1,17 @@
 -- Reading a line of the whole grammar, for the proof that it is the line of one event.
-use Rattle.std.proofs.Common.{ℕ, ℤ, zero, suc, pos, negsuc, ◌-◌, ◌*◌, ◌+◌, List, [], ◌∷◌, ◌++◌, length, Bool, true, false, cond, Option, Some, None, option_map, option_and_then}
+use Rattle.std.proofs.Common.{ℕ, ℤ, zero, suc, pos, negsuc, ◌-◌, ◌*◌, ◌+◌, List, [], ◌∷◌, length, true, false, cond, Option, Some, None, option_map, option_and_then}
 use Rattle.std.specs.Prelude.{◌==◌, codes}
 use Rattle.std.specs.Char.{digit_value}
 use Rattle.std.specs.Str.{bytes_eq, chars}
 use Rattle.std.specs.Str.Parse.{digits_value}
 use Rattle.semantics_lines.specs.Texts.{Phrase}
 use Rattle.semantics_lines.specs.Events.{Metadata, Note, no_span, Scalar, unit, null, bool, char, i64, u64, i128, u128, str, bytes, named, nameless, ordered, scalar, key, tag, of_struct, of_sequence, object_kind, array_kind, Event, leaf, start, stop}
+use Rattle.laws_lines.specs.Fronts.{strip}
+use Rattle.laws_lines.specs.Quoted.{unquote}
 
 -- a text and what follows it
 abbrev pub Front : Type 0
 Front = List ℕ × List ℕ
-
-abbrev pub with_front : List ℕ → Option Front → Option Front
-with_front front o = option_map (λ (p : Front). (front ++ p.0, p.1)) o
-
--- the byte that a letter behind a backslash spells
-abbrev pub spelled : ℕ → Option ℕ
-spelled c = cond (c == 92) (Some 92) (cond (c == 34) (Some 34) (cond (c == 110) (Some 10) None))
-
-abbrev pub with_spelled : Option ℕ → Option Front → Option Front
-with_spelled None o = None
-with_spelled (Some c) o = with_front (c ∷ []) o
-
--- the text up to a quote; the flag says that a backslash stands before
-unfoldable pub unquote : Bool → List ℕ → Option Front
-unquote after_backslash [] = None
-unquote true (b ∷ bs) = with_spelled (spelled b) (unquote false bs)
-unquote false (b ∷ bs) = cond (b == 34) (Some ([], bs)) (cond (b == 92) (unquote true bs) (with_front (b ∷ []) (unquote false bs)))
 
 -- the bytes before the first space, and those from it on
 abbrev pub word_of : List ℕ → List ℕ
@@ -36,12 +21,6 @@ word_of (b ∷ bs) = cond (b == 32) [] (b ∷ word_of bs)
 abbrev pub rest_of : List ℕ → List ℕ
 rest_of [] = []
 rest_of (b ∷ bs) = cond (b == 32) (b ∷ bs) (rest_of bs)
-
--- the bytes behind a front
-abbrev pub strip : List ℕ → List ℕ → Option (List ℕ)
-strip [] bs = Some bs
-strip (p ∷ ps) [] = None
-strip (p ∷ ps) (b ∷ bs) = cond (b == p) (strip ps bs) None
 
 abbrev pub owned : List ℕ → Phrase
 owned text = record { bytes = text; borrowed = false }
