@@ -1,0 +1,7 @@
+pub mod Prefixes
+pub mod Decimals
+pub mod Pairs
+pub mod TextSteps
+pub mod QuoteRests
+pub mod FirstChars
+pub mod Texts
