@@ -11,7 +11,7 @@ use Rattle.semantics_lines.specs.ShapeFaults.{shape_limit}
 use Rattle.semantics_lines.specs.ShapeLines.{Head, ShapeLine, head_line, item_line, field_line, variant_line}
 use Rattle.semantics_lines.specs.ShapeText.{head_names, is_head, shape_names, shape_count, AreLines, name_of, is_known, Scope, definition_said, draft_said, drafts_said, all_names, unknown_ref}
 use Rattle.shape_types.specs.Builder.{named, redefined}
-use Rattle.laws_lines.proofs.ShapeLineParts.{and-both}
+use Rattle.laws_lines.proofs.Tests.{both}
 use Rattle.shape_lines.specs.declared.shape_fault.ShapeTextFault.{ShapeTextFault}
 use Rattle.shape_lines.specs.declared.shape_line.ShapeLine as declared
 use Rattle.shape_lines.specs.ShapeErrors.{text_kind}
@@ -36,7 +36,7 @@ pub length_at : (lines : List declared.ShapeLine) (at : ℕ) → at ≤ length l
 length_at lines at le = omega (arith, length-map (take at lines) shape_line, length-take at lines)
 
 pub known_push : (names : List (List ℕ)) (ls : List ShapeLine) (l : ShapeLine) → list_all (is_known names) ls ≡ true → is_known names l ≡ true → list_all (is_known names) (ls ++ l ∷ []) ≡ true
-known_push names ls l h k = list_all-append (is_known names) ls (l ∷ []) ∙ and-both (list_all (is_known names) ls) (is_known names l && true) h (and-both (is_known names l) true k refl)
+known_push names ls l h k = list_all-append (is_known names) ls (l ∷ []) ∙ both (list_all (is_known names) ls) (is_known names l && true) h (both (is_known names l) true k refl)
 
 -- each line so far refers to shapes that are there
 pub known_more : (names : List (List ℕ)) (lines : List declared.ShapeLine) (at : ℕ) (x d : declared.ShapeLine) → at < length lines → get_or lines at d ≡ x

@@ -8,14 +8,11 @@ use Rattle.std.proofs.lemmas.List.{take-append-drop, drop_more, take_rest, take_
 use Rattle.semantics_lines.specs.ShapeLines.{ShapeLine, spelling, has_parts, is_one_line}
 use Rattle.laws_lines.specs.ShapeLineReading.{line_of}
 use Rattle.semantics_lines.specs.ShapeText.{spelled_before, first_line, BeginsWithNone}
-use Rattle.laws_lines.proofs.ShapeLineParts.{and-both}
+use Rattle.laws_lines.proofs.Tests.{both}
 use Rattle.laws_lines.proofs.ShapeLineLaws.{line-takes, line-again}
 use Rattle.laws_lines.proofs.ShapeTextLines.{is_no_end, line_parts, first_spelled}
+use Rattle.line_text.specs.Ends.{FindsEnd}
 use Rattle.shape_lines.specs.ShapeLines.{StandsAt}
-
--- where the first line feed stands, if there is one
-abbrev pub FindsEnd : List ℕ → Option ℕ → Type 0
-FindsEnd bs o = MatchOption o ((k : ℕ) → k < length bs → get_or bs k 0 ≢ 10) (λ end. (end < length bs) × (get_or bs end 0 ≡ 10) × ((k : ℕ) → k < end → get_or bs k 0 ≢ 10))
 
 first-here : (b : ℕ) (bs : List ℕ) → b ≡ 10 → first_line (b ∷ bs) ≡ []
 first-here b bs h = grind (arith, nat_tests)
@@ -68,13 +65,13 @@ no_end_before : (bs : List ℕ) (k : ℕ) → k ≤ length bs → ((i : ℕ) →
 no_end_before [] zero l p = refl
 no_end_before [] (suc k) l p = absurd (omega arith)
 no_end_before (b ∷ bs) zero l p = refl
-no_end_before (b ∷ bs) (suc k) l p = and-both (is_no_end b) (list_all is_no_end (take k bs)) (no_end b (p 0 (omega arith))) (no_end_before bs k (omega arith) (λ i q. p (suc i) (omega arith)))
+no_end_before (b ∷ bs) (suc k) l p = both (is_no_end b) (list_all is_no_end (take k bs)) (no_end b (p 0 (omega arith))) (no_end_before bs k (omega arith) (λ i q. p (suc i) (omega arith)))
 
 pub stands : (bs : List ℕ) (k : ℕ) (l : ShapeLine) → k < length bs → get_or bs k 0 ≡ 10 → ((i : ℕ) → i < k → get_or bs i 0 ≢ 10) → is_utf8 (take k bs) ≡ true → line_of (take k bs) ≡ Some l
     → StandsAt bs l (take (length bs - (k + 1)) (drop (k + 1) bs))
 stands bs k l b h p utf8 r =
     let s = line-takes (take k bs) l r in
-    let one : is_one_line (take k bs) ≡ true = and-both (is_utf8 (take k bs)) (list_all is_no_end (take k bs)) utf8 (no_end_before bs k (omega (arith, b)) p) in (
-      and-both (has_parts l) (is_one_line (spelling l)) s.0 (ap is_one_line (sym s.1) ∙ one),
+    let one : is_one_line (take k bs) ≡ true = both (is_utf8 (take k bs)) (list_all is_no_end (take k bs)) utf8 (no_end_before bs k (omega (arith, b)) p) in (
+      both (has_parts l) (is_one_line (spelling l)) s.0 (ap is_one_line (sym s.1) ∙ one),
       line_split bs k b h ∙ ap (λ x. x ++ (10 ∷ drop (k + 1) bs)) s.1 ∙ ap (λ x. spelled_before l x) (sym (take_rest bs (k + 1))),
     )

@@ -1,7 +1,4 @@
-pub mod LineFronts
-pub mod Decimals
-pub mod TextSteps
-pub mod QuoteRests
+pub mod Quotes
 pub mod FirstLines
 pub mod Names
 pub mod LineSteps

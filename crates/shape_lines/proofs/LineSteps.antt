@@ -10,7 +10,7 @@ use Rattle.semantics_lines.specs.ShapeFaults.{shape_limit}
 use Rattle.semantics_lines.specs.ShapeLines.{Head, ShapeLine, head_line, item_line, field_line, variant_line, spelling, is_line}
 use Rattle.semantics_lines.specs.ShapeText.{spelled_before, lines_before, head_names, is_head, shape_names, shape_count, Place, place_behind, may_stand, first_place, place_after, are_in_place, AreLines, out_of_place, IsRefusedBehind}
 use Rattle.shape_types.specs.Builder.{named}
-use Rattle.laws_lines.proofs.ShapeLineParts.{and-both, and-parts}
+use Rattle.laws_lines.proofs.Tests.{both, is_both}
 use Rattle.shape_lines.specs.declared.shape_fault.ShapeTextFault.{ShapeTextFault}
 use Rattle.shape_lines.specs.declared.shape_fault.ReadShapesError.{ReadShapesError}
 use Rattle.shape_lines.specs.declared.shape_fault.ReadShapesError.TheVariants as error
@@ -52,17 +52,17 @@ head_named ls name old new is lt added = record {
 }
 
 good_push : (ls : List ShapeLine) (l : ShapeLine) → AreLines ls → is_line l ≡ true → list_all is_line (ls ++ l ∷ []) ≡ true
-good_push ls l good h = list_all-append is_line ls (l ∷ []) ∙ and-both (list_all is_line ls) (is_line l && true) good.good (and-both (is_line l) true h refl)
+good_push ls l good h = list_all-append is_line ls (l ∷ []) ∙ both (list_all is_line ls) (is_line l && true) good.good (both (is_line l) true h refl)
 
 pub place_push : (p : Place) (ls : List ShapeLine) (l : ShapeLine) → place_after p (ls ++ l ∷ []) ≡ place_behind (place_after p ls) l
 place_push p [] l = refl
 place_push p (x ∷ ls) l = place_push (place_behind p x) ls l
 
 placed_push : (p : Place) (ls : List ShapeLine) (l : ShapeLine) → are_in_place p ls ≡ true → may_stand (place_after p ls) l ≡ true → are_in_place p (ls ++ l ∷ []) ≡ true
-placed_push p [] l h k = and-both (may_stand p l) true k refl
+placed_push p [] l h k = both (may_stand p l) true k refl
 placed_push p (x ∷ ls) l h k =
-    let q = and-parts (may_stand p x) (are_in_place (place_behind p x) ls) h in
-    and-both (may_stand p x) (are_in_place (place_behind p x) (ls ++ l ∷ [])) q.0 (placed_push (place_behind p x) ls l q.1 k)
+    let q = is_both (may_stand p x) (are_in_place (place_behind p x) ls) h in
+    both (may_stand p x) (are_in_place (place_behind p x) (ls ++ l ∷ [])) q.0 (placed_push (place_behind p x) ls l q.1 k)
 
 lines_push : (ls : List ShapeLine) (l : ShapeLine) → AreLines ls → is_line l ≡ true → may_stand (place_after first_place ls) l ≡ true → shape_count ls + length (head_names l) ≤ shape_limit → AreLines (ls ++ l ∷ [])
 lines_push ls l good h k few = record {

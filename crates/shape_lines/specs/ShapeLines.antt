@@ -1,11 +1,10 @@
 -- Lines of a shape text, as the definitions see them.
-use Rattle.std.specs.Prelude.{◌≡◌, ℕ, nat_lt, ◌==◌, List, [], ◌∷◌, ◌++◌, length, map, slice_index, Bool, false, ◌&&◌, ◌||◌, Option, None, Some, option_map, option_and_then, encode_utf8, IsTrue, ◌⊎◌}
+use Rattle.std.specs.Prelude.{◌≡◌, ℕ, List, [], map, false, Option, None, Some, option_map, IsTrue}
 use Rattle.std.specs.Borrow.{Bor}
-use Rattle.std.specs.Str.{chars, all_scalars}
 use Rattle.semantics_lines.specs.Shapes as shapes
 use Rattle.semantics_lines.specs.Scalars.{scalar_drafts}
 use Rattle.semantics_lines.specs.ShapeLines as mirror
-use Rattle.laws_lines.specs.ShapeLineReading.{unquote, with_front, only_of}
+use Rattle.laws_lines.specs.Quoted.{unquote}
 use Rattle.semantics_lines.specs.ShapeText as text
 use Rattle.shape_types.specs.Shapes.{skip_rule_of, meta_kind_of, tag_kind_of}
 use Rattle.shape_lines.specs.declared.shape_quoted.Quoted.{Quoted}
@@ -34,14 +33,7 @@ two_pieces p = ((p.0.0.now, p.0.1.now), p.1.now)
 abbrev pub told_number : ℕ × Bor (List ℕ) → ℕ × List ℕ
 told_number p = (p.0, p.1.now)
 
--- a sign or a leading zero stands in front
-abbrev pub is_padded : List ℕ → Bool
-is_padded text = slice_index text 0 == 43 || (slice_index text 0 == 48 && nat_lt 1 (length text))
-
--- what stands behind the closing quote of a text
-unfoldable pub rest_behind : List ℕ → Option (List ℕ)
-rest_behind text = option_map (λ p. p.1) (unquote false text)
-
+-- the text, where there is one
 abbrev pub text_or_none : Option (List ℕ × List ℕ) → List ℕ
 text_or_none None = []
 text_or_none (Some p) = p.0
@@ -55,15 +47,6 @@ told_piece p = (told p.0, p.1.now)
 
 abbrev pub told_pieces : (Quoted × Quoted) × Bor (List ℕ) → (List ℕ × List ℕ) × List ℕ
 told_pieces p = ((told p.0.0, told p.0.1), p.1.now)
-
--- the one character of a text, and what stands behind the text
-abbrev pub char_in : List ℕ × List ℕ → Option (ℕ × List ℕ)
-char_in p = option_map (λ c. (c, p.1)) (only_of p.0 (chars p.0))
-
--- What the first character of a text says of the text, where it is a character and what is left of it is known.
-abbrev pub ReadsFirst : List ℕ → Option ℕ → List ℕ → Type 0
-ReadsFirst old None new = option_and_then char_in (unquote false old) ≡ None
-ReadsFirst old (Some c) new = (unquote false old ≡ with_front (encode_utf8 c) (unquote false new)) × (IsTrue (all_scalars (c ∷ [])) ⊎ (old ≡ encode_utf8 c ++ new))
 
 abbrev pub form_view : FormLine → shapes.EnumForm
 form_view form.External = shapes.external

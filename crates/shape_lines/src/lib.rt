@@ -24,4 +24,3 @@ pub use shape_definitions::line_of_shape;
 pub use shape_fault::{ReadShapesError, ShapeTextFault, ShapeTextKind, fault};
 pub use shape_line::ShapeLine;
 pub use shape_lines::read_lines;
-pub use shape_words::number;

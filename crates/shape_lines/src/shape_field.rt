@@ -3,12 +3,14 @@ ghost use Rattle.std.specs.Prelude.{◌≡◌, unwrap_or, codes};
 ghost use Rattle.semantics_lines.specs.Shapes.{skip_never};
 ghost use Rattle.std.specs.Option.{option_map};
 ghost use Rattle.shape_types.specs.Shapes.{skip_rule_of, meta_kind_of};
-ghost use Rattle.laws_lines.specs.ShapeLineReading.{behind, attribute, quoted_at, plain_literal, worded_literal, literal_at, skip_at, meta_at, attributed, field_of};
+ghost use Rattle.laws_lines.specs.Quoted.{quoted_at};
+ghost use Rattle.laws_lines.specs.ShapeLineReading.{behind, attribute, plain_literal, worded_literal, literal_at, skip_at, meta_at, attributed, field_of};
 ghost use Rattle.shape_lines.specs.ShapeLines.{told, literal_view, field_view};
 
 use crate::shape_line::{FieldLine, Literal};
 use crate::shape_quoted::{Quoted, char_behind, quoted_behind};
-use crate::shape_words::{after, flag_at, names_at, number_behind, signed_behind};
+use crate::shape_words::{flag_at, names_at, number_behind, signed_behind};
+use line_text::after;
 use shape_types::{MetaKind, SkipRule};
 
 /// A text behind these words, where one stands there, and what stands behind it.

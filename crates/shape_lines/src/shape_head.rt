@@ -7,7 +7,8 @@ ghost use Rattle.shape_lines.specs.ShapeLines.{head_view, form_view};
 
 use crate::shape_line::{FormLine, Head};
 use crate::shape_quoted::{quoted_behind, quotes_at};
-use crate::shape_words::{after, below_32, flag_at, number_behind, whole_name, whole_names};
+use crate::shape_words::{below_32, flag_at, number_behind, whole_name, whole_names};
+use line_text::after;
 use shape_types::TagKind;
 
 /// A shape over another one.

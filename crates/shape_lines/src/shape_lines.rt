@@ -1,4 +1,4 @@
-ghost use Rattle.std.specs.Prelude.{◌≡◌, ◌≢◌, ℕ, ◌+◌, ◌<◌, [], ◌∷◌, ◌++◌, length, map, get_or, MatchOption, IfOk, IfErr, OnOk, IsTrue};
+ghost use Rattle.std.specs.Prelude.{◌≡◌, ◌≢◌, ◌+◌, [], ◌∷◌, ◌++◌, length, map, IfOk, IfErr, OnOk, IsTrue};
 ghost use Rattle.semantics_lines.specs.Scalars.{scalar_drafts};
 ghost use Rattle.semantics_lines.specs.ShapeLines.{is_line};
 ghost use Rattle.semantics_lines.specs.ShapeText.{AreLines, first_place as first_mirror, place_after};
@@ -12,17 +12,10 @@ use crate::shape_fault::{ReadShapesError, ShapeTextKind, fault};
 use crate::shape_line::ShapeLine;
 use crate::shape_place::{Place, first_place, may_stand, place_behind};
 use crate::shape_reading::line_of;
+use line_text::line_end;
 use shape_types::{DraftsBuilder, Items, NameFault};
 use std::alloc::Global;
 use std::str;
-
-/// Where the first line feed stands.
-fn line_end(bytes: &[u8]) -> Option<usize>
-    ensures { MatchOption result ((k : ℕ) → k < length bytes.now → get_or bytes.now k 0 ≢ 10)
-        (λ end. (end < length bytes.now) × (get_or bytes.now end 0 ≡ 10) × ((k : ℕ) → k < end → get_or bytes.now k 0 ≢ 10)) }
-{
-    bytes.iter().position(|b| *b == b'\n')
-}
 
 /// What the first line says, and what stands behind it.
 fn first_line(left: &[u8]) -> Result<(ShapeLine<'_>, &[u8]), ShapeTextKind>

@@ -8,7 +8,8 @@ use crate::shape_field::field_of;
 use crate::shape_head::head_of;
 use crate::shape_line::ShapeLine;
 use crate::shape_variant::variant_of;
-use crate::shape_words::{after, name_behind, whole_name};
+use crate::shape_words::{name_behind, whole_name};
+use line_text::after;
 
 /// A shape begins.
 #[tactic(auto, unfolding(laws_lines::specs::ShapeLineReading::head_line_of))]

@@ -1,12 +1,14 @@
 //! What a line says of a variant.
 ghost use Rattle.std.specs.Prelude.{◌≡◌, codes};
 ghost use Rattle.std.specs.Option.{option_map};
-ghost use Rattle.laws_lines.specs.ShapeLineReading.{behind, attribute, signed_at, body_at, variant_behind, variant_of};
+ghost use Rattle.laws_lines.specs.Fronts.{signed_at};
+ghost use Rattle.laws_lines.specs.ShapeLineReading.{behind, attribute, body_at, variant_behind, variant_of};
 ghost use Rattle.shape_lines.specs.ShapeLines.{body_view, variant_view};
 
 use crate::shape_field::text_attribute;
 use crate::shape_line::{Body, VariantLine};
-use crate::shape_words::{after, name_at, short_signed_at};
+use crate::shape_words::name_at;
+use line_text::{after, signed_at};
 
 /// What belongs behind a variant, and what stands behind that word.
 #[tactic(auto, unfolding(laws_lines::specs::ShapeLineReading::body_at))]
@@ -27,16 +29,16 @@ fn body_at(text: &str) -> Option<(Body, &str)>
 
 /// A number behind its word.
 fn discriminant_behind(text: &str) -> Option<(i64, &str)>
-    ensures { option_map (λ p. (p.0, p.1.now)) result ≡ behind (codes " disc ") (signed_at 63) text.now }
+    ensures { option_map (λ p. (p.0, p.1.now)) result ≡ behind (codes " disc ") (signed_at 63 64) text.now }
 {
-    short_signed_at(after(text, " disc ")?)
+    signed_at(after(text, " disc ")?)
 }
 
 /// The number, where one stands there, and what stands behind it.
 #[tactic(auto, unfolding(laws_lines::specs::ShapeLineReading::attribute))]
 fn discriminant_attribute(text: &str) -> (Option<i64>, &str)
-    ensures value { result.0 ≡ (attribute (codes " disc ") (signed_at 63) text.now).0 }
-    ensures rest { result.1.now ≡ (attribute (codes " disc ") (signed_at 63) text.now).1 }
+    ensures value { result.0 ≡ (attribute (codes " disc ") (signed_at 63 64) text.now).0 }
+    ensures rest { result.1.now ≡ (attribute (codes " disc ") (signed_at 63 64) text.now).1 }
 {
     match discriminant_behind(text) {
         Some((z, rest)) => (Some(z), rest),

@@ -1,28 +1,13 @@
-//! Reading a front of a line: words, names and numbers.
+//! Reading a front of a line: words that are known, names, and numbers after words.
 ghost use Rattle.std.specs.Prelude.{◌≡◌};
 ghost use Rattle.std.specs.Option.{option_copied, option_map};
 ghost use Rattle.std.specs.List.{list_all};
 ghost use Rattle.semantics_lines.specs.ShapeLines.{is_name_byte, is_name};
-ghost use Rattle.laws_lines.specs.ShapeLineReading.{strip, until_space, behind, whole, flag_at, name_at, names_at, number_of, below, negative, positive, signed_of, number_at, signed_at};
-ghost use Rattle.shape_lines.specs.ShapeLines.{is_padded, one_piece, two_pieces, told_number};
+ghost use Rattle.laws_lines.specs.Fronts.{number_at, signed_at};
+ghost use Rattle.laws_lines.specs.ShapeLineReading.{behind, whole, flag_at, name_at, names_at, below};
+ghost use Rattle.shape_lines.specs.ShapeLines.{one_piece, two_pieces, told_number};
 
-/// What stands behind a front of the text, where the text begins with it.
-pub(crate) fn after<'a>(text: &'a str, front: &str) -> Option<&'a str>
-    ensures { option_copied result ≡ strip front.now text.now }
-{
-    text.strip_prefix(front)
-}
-
-/// What stands before the first space, and what stands from it on.
-fn word(text: &str) -> (&str, &str)
-    ensures word { result.0.now ≡ (until_space text.now).0 }
-    ensures rest { result.1.now ≡ (until_space text.now).1 }
-{
-    match text.find(' ') {
-        Some(at) => text.split_at(at),
-        None => (text, ""),
-    }
-}
+use line_text::{after, wide_number_at, wide_signed_at, word};
 
 /// An ASCII letter, a digit or `_`.
 fn is_name_byte(b: u8) -> bool
@@ -103,40 +88,11 @@ pub(crate) fn flag_at<'a>(text: &'a str, words: &str) -> (bool, &'a str)
     }
 }
 
-/// A sign or a leading zero stands in front.
-fn is_padded(text: &[u8]) -> bool
-    ensures { result ≡ is_padded text.now }
-{
-    match text {
-        [b'+', ..] | [b'0', _, ..] => true,
-        _ => false,
-    }
-}
-
-/// The number of 128 bits whose decimal this is, without a sign or a leading zero.
-pub fn number(text: &str) -> Option<u128>
-    ensures { result ≡ number_of 128 text.now }
-{
-    if is_padded(text.as_bytes()) {
-        return None;
-    }
-    text.parse().ok()
-}
-
-/// A number up to the end of the word, and what stands behind it.
-#[tactic(auto, unfolding(laws_lines::specs::ShapeLineReading::number_at))]
-fn number_at(text: &str) -> Option<(u128, &str)>
-    ensures { option_map told_number result ≡ number_at text.now }
-{
-    let (digits, rest) = word(text);
-    Some((number(digits)?, rest))
-}
-
 /// A number behind these words, and what stands behind it.
 pub(crate) fn number_behind<'a>(text: &'a str, words: &str) -> Option<(u128, &'a str)>
-    ensures { option_map told_number result ≡ behind words.now number_at text.now }
+    ensures { option_map told_number result ≡ behind words.now (number_at 128) text.now }
 {
-    number_at(after(text, words)?)
+    wide_number_at(after(text, words)?)
 }
 
 /// The number, where it fits 32 bits.
@@ -150,91 +106,9 @@ pub(crate) fn below_32(n: u128) -> Option<u32>
     }
 }
 
-/// The number below 0 of this size, where it fits.
-fn negative(n: u128) -> Option<i128>
-    ensures { result ≡ negative 127 n }
-{
-    if n == 0 || n > 170_141_183_460_469_231_731_687_303_715_884_105_728 {
-        return None;
-    }
-    Some(-1 - (n - 1) as i128)
-}
-
-/// The number, where it fits.
-fn positive(n: u128) -> Option<i128>
-    ensures { result ≡ positive 127 n }
-{
-    if n < 170_141_183_460_469_231_731_687_303_715_884_105_728 {
-        Some(n as i128)
-    } else {
-        None
-    }
-}
-
-/// The number with a sign whose decimal this is.
-#[tactic(auto, unfolding(laws_lines::specs::ShapeLineReading::signed_of))]
-fn signed(text: &str) -> Option<i128>
-    ensures { result ≡ signed_of 127 text.now }
-{
-    match after(text, "-") {
-        Some(digits) => negative(number(digits)?),
-        None => positive(number(text)?),
-    }
-}
-
-/// A number with a sign up to the end of the word, and what stands behind it.
-#[tactic(auto, unfolding(laws_lines::specs::ShapeLineReading::signed_at))]
-fn signed_at(text: &str) -> Option<(i128, &str)>
-    ensures { option_map (λ p. (p.0, p.1.now)) result ≡ signed_at 127 text.now }
-{
-    let (digits, rest) = word(text);
-    Some((signed(digits)?, rest))
-}
-
-/// A number with a sign behind these words, and what stands behind it.
+/// A signed number behind these words, and what stands behind it.
 pub(crate) fn signed_behind<'a>(text: &'a str, words: &str) -> Option<(i128, &'a str)>
-    ensures { option_map (λ p. (p.0, p.1.now)) result ≡ behind words.now (signed_at 127) text.now }
+    ensures { option_map (λ p. (p.0, p.1.now)) result ≡ behind words.now (signed_at 127 128) text.now }
 {
-    signed_at(after(text, words)?)
-}
-
-/// The number below 0 of this size, where it fits 64 bits.
-fn short_negative(n: u128) -> Option<i64>
-    ensures { result ≡ negative 63 n }
-{
-    if n == 0 || n > 9_223_372_036_854_775_808 {
-        return None;
-    }
-    Some(-1 - (n - 1) as i64)
-}
-
-/// The number, where it fits 64 bits.
-fn short_positive(n: u128) -> Option<i64>
-    ensures { result ≡ positive 63 n }
-{
-    if n < 9_223_372_036_854_775_808 {
-        Some(n as i64)
-    } else {
-        None
-    }
-}
-
-/// The number with a sign whose decimal this is, in 64 bits.
-#[tactic(auto, unfolding(laws_lines::specs::ShapeLineReading::signed_of))]
-fn short_signed(text: &str) -> Option<i64>
-    ensures { result ≡ signed_of 63 text.now }
-{
-    match after(text, "-") {
-        Some(digits) => short_negative(number(digits)?),
-        None => short_positive(number(text)?),
-    }
-}
-
-/// A number with a sign in 64 bits, up to the end of the word, and what stands behind it.
-#[tactic(auto, unfolding(laws_lines::specs::ShapeLineReading::signed_at))]
-pub(crate) fn short_signed_at(text: &str) -> Option<(i64, &str)>
-    ensures { option_map (λ p. (p.0, p.1.now)) result ≡ signed_at 63 text.now }
-{
-    let (digits, rest) = word(text);
-    Some((short_signed(digits)?, rest))
+    wide_signed_at(after(text, words)?)
 }

@@ -1,7 +1,7 @@
 use Rattle.std.proofs.Common.{sym, ap, ◌∙◌}
 use Rattle.std.specs.Prelude.{option_map}
 use Rattle.shape_lines.specs.ShapeLines.{told_piece}
-use Rattle.shape_lines.proofs.QuoteRests.{piece_found, piece_none, quoted_cut, quoted_none}
+use Rattle.shape_lines.proofs.Quotes.{piece_found, piece_none, quoted_cut, quoted_none}
 use Rattle.shape_lines.proofs.shape_quoted.quoted_at.Goals as goal
 
 pub returns-in_err-from : goal.returns-in_err-from
