@@ -5,7 +5,7 @@ use Rattle.shape_types.specs.declared.memory.OutOfMemory.{OutOfMemory}
 use Rattle.semantics_lines.specs.Texts.{is_plain}
 use Rattle.semantics_lines.specs.Lines.{escape}
 use Rattle.tape_text.specs.Writer.{Adds}
-use Rattle.tape_text.proofs.Texts.{escape-plain}
+use Rattle.laws_lines.proofs.Plain.{escape-plain}
 
 -- one piece and then another
 pub adds_more : (a b old mid new : List ℕ) (r : Result (Unit {0}) OutOfMemory) → mid ≡ old ++ a → Adds b mid new r → Adds (a ++ b) old new r

@@ -8,14 +8,14 @@ use Rattle.std.proofs.lemmas.Bool.Decides.{nat_tests}
 use Rattle.semantics_lines.specs.Texts.{Phrase, is_plain}
 use Rattle.semantics_lines.specs.Events.{Scalar, unit, null, bool, char, i64, u64, i128, u128, str, bytes, of_struct, of_sequence}
 use Rattle.semantics_lines.specs.Lines.{quoted, hex, magnitude, after, scalar_body, tag_body, IsTapeText, IsTapeScalar}
-use Rattle.tape_text.specs.Quoted.{unquoted}
+use Rattle.laws_lines.specs.Quoted.{unquoted}
 use Rattle.tape_text.specs.Bodies.{Body, opens, closes, next_field, names, tags, holds, bare_at, owned_bytes, key_at, str_at, letter_at, hex_at, variant_at, small_at, small_signed_at, large_at, large_signed_at, body_at}
-use Rattle.tape_text.proofs.Words.{EndsWord, number_at-again}
-use Rattle.tape_text.proofs.Signed.{signed_at-again}
-use Rattle.tape_text.proofs.Hex.{bytes_at-again}
-use Rattle.tape_text.proofs.Texts.{unquoted-again, escape-plain}
-use Rattle.tape_text.proofs.Unquoting.{text-again}
-use Rattle.tape_text.proofs.Characters.{char_at-again}
+use Rattle.laws_lines.proofs.Fronts.{EndsWord}
+use Rattle.laws_lines.proofs.Numbers.{number_at-again, half_of_64, half_of_128, signed_at-again}
+use Rattle.laws_lines.proofs.Hex.{bytes_at-again}
+use Rattle.laws_lines.proofs.Plain.{unquoted-again, escape-plain}
+use Rattle.laws_lines.proofs.Quotes.{text-again}
+use Rattle.laws_lines.proofs.Characters.{char_at-again}
 use Rattle.tape_text.proofs.BodyLaws.{body_text, HasBodyTexts}
 
 pub some_is : {A : Type 0} {x y : A} → Some x ≡ Some y → x ≡ y
@@ -28,9 +28,6 @@ guarded word x text false h = absurd (let g : None ≡ Some text = h in cc)
 tested : (x text : List ℕ) (b : Bool) → cond b (Some x) None ≡ Some text → (b ≡ true) × (x ≡ text)
 tested x text true h = (refl, some_is h)
 tested x text false h = absurd (let g : None ≡ Some text = h in cc)
-
-below : (n k : ℕ) → nat_lt n k ≡ true → n < k
-below n k h = grind (arith, nat_tests)
 
 -- the body is read from its line
 abbrev Again : Body → List ℕ → List ℕ → Type 0
@@ -71,19 +68,19 @@ variant-again t rest h =
 
 u64-again : (n : ℕ) (rest : List ℕ) → nat_lt n (2 ^ 64) ≡ true → EndsWord rest → Again (holds (u64 n)) (codes "u " ++ decimal n) rest
 unfolding body_at bare_at small_at
-u64-again n rest h e = ap (option_map (λ p. (holds (u64 p.0), p.1))) (number_at-again 64 n rest (omega arith) (below n (2 ^ 64) h) e)
+u64-again n rest h e = ap (option_map (λ p. (holds (u64 p.0), p.1))) (number_at-again 64 n rest (omega arith) h e)
 
 u128-again : (n : ℕ) (rest : List ℕ) → nat_lt n (2 ^ 128) ≡ true → EndsWord rest → Again (holds (u128 n)) (codes "U " ++ decimal n) rest
 unfolding body_at bare_at large_at
-u128-again n rest h e = ap (option_map (λ p. (holds (u128 p.0), p.1))) (number_at-again 128 n rest (omega arith) (below n (2 ^ 128) h) e)
+u128-again n rest h e = ap (option_map (λ p. (holds (u128 p.0), p.1))) (number_at-again 128 n rest (omega arith) h e)
 
 i64-again : (z : ℤ) (rest : List ℕ) → nat_lt (magnitude z) (2 ^ 63) ≡ true → EndsWord rest → Again (holds (i64 z)) (codes "i " ++ signed_decimal z) rest
 unfolding body_at bare_at small_signed_at
-i64-again z rest h e = ap (option_map (λ p. (holds (i64 p.0), p.1))) (signed_at-again 63 64 z rest (omega arith) (omega arith) h e)
+i64-again z rest h e = ap (option_map (λ p. (holds (i64 p.0), p.1))) (signed_at-again 63 64 z rest half_of_64 h e)
 
 i128-again : (z : ℤ) (rest : List ℕ) → nat_lt (magnitude z) (2 ^ 127) ≡ true → EndsWord rest → Again (holds (i128 z)) (codes "I " ++ signed_decimal z) rest
 unfolding body_at bare_at large_signed_at
-i128-again z rest h e = ap (option_map (λ p. (holds (i128 p.0), p.1))) (signed_at-again 127 128 z rest (omega arith) (omega arith) h e)
+i128-again z rest h e = ap (option_map (λ p. (holds (i128 p.0), p.1))) (signed_at-again 127 128 z rest half_of_128 h e)
 
 owned_is : (t : Phrase) → t.borrowed ≡ false → owned_bytes t.bytes ≡ bytes t
 owned_is t h = ap (λ b. bytes (record { bytes = t.bytes; borrowed = b })) (sym h)

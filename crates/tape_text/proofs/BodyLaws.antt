@@ -1,21 +1,21 @@
 -- The body of a line is read as what it says.
-use Rattle.std.proofs.Common.{ℕ, ◌^◌, ◌<◌, ◌≡◌, List, [], ◌∷◌, ◌++◌, true, cond, Option, Some, None, sym, refl, ap, ◌∙◌, subst, inl, inr, arith, append_assoc}
+use Rattle.std.proofs.Common.{ℕ, ◌^◌, ◌<◌, ◌≡◌, ◌⊎◌, List, [], ◌∷◌, ◌++◌, true, cond, Option, Some, None, sym, refl, ap, ◌∙◌, subst, inl, inr, arith, append_assoc}
 use Rattle.std.specs.Prelude.{nat_lt, codes, encode_utf8}
 use Rattle.std.specs.Fmt.{decimal, signed_decimal}
+use Rattle.std.specs.Option.{option_or}
 use Rattle.std.proofs.lemmas.Bool.Decides.{nat_tests}
 use Rattle.semantics_lines.specs.Events.{char, i64, u64, i128, u128, str, of_struct, of_sequence}
 use Rattle.semantics_lines.specs.Lines.{quoted, hex, after, scalar_body, tag_body, IsTapeText, IsTapeScalar}
-use Rattle.tape_text.specs.Fronts.{strip, number_at, signed_at, bytes_at}
-use Rattle.tape_text.specs.Quoted.{unquoted, text_at, char_at}
+use Rattle.laws_lines.specs.Fronts.{strip, number_at, signed_at, bytes_at}
+use Rattle.laws_lines.specs.Quoted.{unquoted, text_at, char_at}
 use Rattle.tape_text.specs.Bodies.{Body, opens, closes, next_field, names, tags, holds, Reader, bare_words, fixed, bare_in, bare_at, owned_bytes, key_at, str_at, letter_at, hex_at, variant_at, small_at, small_signed_at, large_at, large_signed_at, rows, by_word, body_in, body_at}
-use Rattle.tape_text.proofs.Options.{mapped, or-some}
-use Rattle.tape_text.proofs.Strip.{strip-takes}
-use Rattle.tape_text.proofs.Words.{number_at-takes}
-use Rattle.tape_text.proofs.Signed.{signed_at-takes}
-use Rattle.tape_text.proofs.Hex.{bytes_at-takes}
-use Rattle.tape_text.proofs.Texts.{unquoted-takes, escape-plain}
-use Rattle.tape_text.proofs.Unquoting.{text-takes}
-use Rattle.tape_text.proofs.Characters.{char_at-takes}
+use Rattle.laws_lines.proofs.Tests.{mapped}
+use Rattle.laws_lines.proofs.Fronts.{strip-takes}
+use Rattle.laws_lines.proofs.Numbers.{number_at-takes, signed_at-takes}
+use Rattle.laws_lines.proofs.Hex.{bytes_at-takes}
+use Rattle.laws_lines.proofs.Plain.{unquoted-takes, escape-plain}
+use Rattle.laws_lines.proofs.Quotes.{text-takes}
+use Rattle.laws_lines.proofs.Characters.{char_at-takes}
 
 -- the line of a body, with nothing told behind it
 abbrev pub body_text : Body → Option (List ℕ)
@@ -40,6 +40,11 @@ pub record Takes (l : List ℕ) (p : Body × List ℕ) : Type 0 where
   pub front : l ≡ text ++ p.1
   pub spelled : body_text p.0 ≡ Some text
   pub texts : HasBodyTexts p.0
+
+-- what an answer says that is there
+or-some : {A : Type 0} → (a b : Option A) (y : A) → option_or a b ≡ Some y → (a ≡ Some y) ⊎ (b ≡ Some y)
+or-some None b y h = inr h
+or-some (Some x) b y h = inl h
 
 -- a body that is a word
 
@@ -143,16 +148,13 @@ variant-takes l p h =
       texts = tt;
     })
 
-in_range : (n k : ℕ) → n < k → nat_lt n k ≡ true
-in_range n k h = grind (arith, nat_tests)
-
 small-takes : TakesBy (codes "u ") small_at
 unfolding small_at
 small-takes l p h =
     let m = mapped (λ q. (holds (u64 q.0), q.1)) (number_at 64 l) p h in
     let t = number_at-takes 64 l m.0 m.1 in
     subst (λ (q : Body × List ℕ). TakesBehind (codes "u ") l q) m.2
-    (record { text = decimal m.0.0; front = t.1; spelled = ap (λ b. after (codes "u ") (cond b (Some (decimal m.0.0)) None)) (in_range m.0.0 (2 ^ 64) t.0); texts = tt })
+    (record { text = decimal m.0.0; front = t.1; spelled = ap (λ b. after (codes "u ") (cond b (Some (decimal m.0.0)) None)) t.0; texts = tt })
 
 large-takes : TakesBy (codes "U ") large_at
 unfolding large_at
@@ -160,7 +162,7 @@ large-takes l p h =
     let m = mapped (λ q. (holds (u128 q.0), q.1)) (number_at 128 l) p h in
     let t = number_at-takes 128 l m.0 m.1 in
     subst (λ (q : Body × List ℕ). TakesBehind (codes "U ") l q) m.2
-    (record { text = decimal m.0.0; front = t.1; spelled = ap (λ b. after (codes "U ") (cond b (Some (decimal m.0.0)) None)) (in_range m.0.0 (2 ^ 128) t.0); texts = tt })
+    (record { text = decimal m.0.0; front = t.1; spelled = ap (λ b. after (codes "U ") (cond b (Some (decimal m.0.0)) None)) t.0; texts = tt })
 
 small_signed-takes : TakesBy (codes "i ") small_signed_at
 unfolding small_signed_at

@@ -1,14 +1,3 @@
-pub mod Options
-pub mod Strip
-pub mod Decimals
-pub mod Words
-pub mod Signed
-pub mod Hex
-pub mod Texts
-pub mod Splits
-pub mod Unquoting
-pub mod TextSteps
-pub mod Characters
 pub mod Suffixes
 pub mod Bare
 pub mod BodyLaws

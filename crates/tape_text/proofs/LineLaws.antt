@@ -10,7 +10,7 @@ use Rattle.tape_text.specs.Suffixes.{metadata, metadata_at}
 use Rattle.tape_text.specs.Bodies.{Body, opens, closes, next_field, names, tags, holds, takes_metadata, body_at}
 use Rattle.tape_text.specs.Reading.{is_silent, event_from, event_with, completed, event_of}
 use Rattle.tape_text.specs.Laws.{LineIsRead}
-use Rattle.tape_text.proofs.Options.{and_then-some}
+use Rattle.laws_lines.proofs.Tests.{bound}
 use Rattle.tape_text.proofs.Suffixes.{metadata-again, metadata-takes, suffix-ends}
 use Rattle.tape_text.proofs.BodyLaws.{body-takes}
 use Rattle.tape_text.proofs.BodyAgain.{body-again}
@@ -55,8 +55,8 @@ fitting false x e h = absurd (let g : None ≡ Some e = h in cc)
 event-takes : (s : Span) (l : List ℕ) (e : Event) → event_of s l ≡ Some e → IsRead s e l
 unfolding event_of
 event-takes s l e h =
-    let a = and_then-some (completed s) (body_at l) e h in
-    let b = and_then-some (event_with a.0.0 s) (metadata_at a.0.1) e a.2 in
+    let a = bound (completed s) (body_at l) e h in
+    let b = bound (event_with a.0.0 s) (metadata_at a.0.1) e a.2 in
     let body = body-takes l a.0 a.1 in
     let told = metadata-takes a.0.1 b.0 b.1 in
     let m = metadata told.tag told.docs in

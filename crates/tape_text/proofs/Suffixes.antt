@@ -8,13 +8,12 @@ use Rattle.std.proofs.lemmas.List.{get_or_at, drop_at}
 use Rattle.semantics_lines.specs.Texts.{Phrase}
 use Rattle.semantics_lines.specs.Events.{Metadata}
 use Rattle.semantics_lines.specs.Lines.{escape, quoted, tag_suffix, doc_suffix, suffix, IsTapeText, IsTapeTag, AreTapeTexts}
-use Rattle.tape_text.specs.Fronts.{strip}
-use Rattle.tape_text.specs.Quoted.{text_at}
+use Rattle.laws_lines.specs.Fronts.{strip}
+use Rattle.laws_lines.specs.Quoted.{text_at}
 use Rattle.tape_text.specs.Suffixes.{Tagged, tagged, tag_in, tag_at, doc_at, doc_first, docs_at, metadata, with_docs, metadata_at}
-use Rattle.tape_text.proofs.Options.{and_then-some, mapped}
-use Rattle.tape_text.proofs.Strip.{strip-again, strip-takes}
-use Rattle.tape_text.proofs.Words.{EndsWord}
-use Rattle.tape_text.proofs.Unquoting.{text-again, text-takes}
+use Rattle.laws_lines.proofs.Tests.{mapped, bound}
+use Rattle.laws_lines.proofs.Fronts.{strip-again, strip-takes, EndsWord}
+use Rattle.laws_lines.proofs.Quotes.{text-again, text-takes}
 
 pub doc-again : (t : Phrase) (rest : List ℕ) → IsTapeText t → doc_at (doc_suffix t ++ rest) ≡ Some (t, rest)
 unfolding doc_at
@@ -25,7 +24,7 @@ doc-again t rest is =
 pub doc-takes : (l : List ℕ) (p : Phrase × List ℕ) → doc_at l ≡ Some p → (l ≡ doc_suffix p.0 ++ p.1) × IsTapeText p.0
 unfolding doc_at
 doc-takes l p h =
-    let a = and_then-some text_at (strip (codes " doc ") l) p h in
+    let a = bound text_at (strip (codes " doc ") l) p h in
     let w = text-takes a.0 p a.2 in
     (strip-takes (codes " doc ") l a.0 a.1 ∙ ap (λ x. codes " doc " ++ x) w.0 ∙ sym (append_assoc (codes " doc ") (quoted p.0.bytes) p.1), w.1)
 
@@ -194,7 +193,7 @@ nothing_told = metadata-again None [] _ _
 pub metadata-takes : (l : List ℕ) (m : Metadata) → metadata_at l ≡ Some m → Tells l m
 unfolding metadata_at
 metadata-takes l m h =
-    let a = and_then-some with_docs (tag_at l) m h in
+    let a = bound with_docs (tag_at l) m h in
     let b = mapped (metadata a.0.0) (docs_at (length a.0.1) a.0.1) m a.2 in
     let t = tag-takes l a.0 a.1 in
     let d = docs-takes (length a.0.1) a.0.1 b.0 b.1 in

@@ -4,8 +4,8 @@ use Rattle.std.specs.Option.{option_or}
 use Rattle.semantics_lines.specs.Texts.{Phrase}
 use Rattle.semantics_lines.specs.Events.{Scalar, unit, null, bool, char, i64, u64, i128, u128, str, bytes, Bracket, of_struct, of_sequence}
 use Rattle.semantics_lines.specs.Lines.{is_empty_list}
-use Rattle.tape_text.specs.Fronts.{strip, number_at, signed_at, bytes_at}
-use Rattle.tape_text.specs.Quoted.{unquoted, text_at, char_at}
+use Rattle.laws_lines.specs.Fronts.{strip, number_at, signed_at, bytes_at}
+use Rattle.laws_lines.specs.Quoted.{unquoted, text_at, char_at}
 
 -- what a line says before its metadata
 pub data Body : Type 0 where

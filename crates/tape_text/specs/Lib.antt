@@ -1,5 +1,3 @@
-pub mod Fronts
-pub mod Quoted
 pub mod Suffixes
 pub mod Bodies
 pub mod Reading

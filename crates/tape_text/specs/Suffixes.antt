@@ -2,8 +2,8 @@
 use Rattle.std.specs.Prelude.{ℕ, zero, suc, List, [], ◌∷◌, length, codes, Option, None, Some, option_map, option_and_then}
 use Rattle.semantics_lines.specs.Texts.{Phrase}
 use Rattle.semantics_lines.specs.Events.{Metadata}
-use Rattle.tape_text.specs.Fronts.{strip}
-use Rattle.tape_text.specs.Quoted.{text_at}
+use Rattle.laws_lines.specs.Fronts.{strip}
+use Rattle.laws_lines.specs.Quoted.{text_at}
 
 abbrev pub Tagged : Type 0
 Tagged = Option Phrase × List ℕ

@@ -5,10 +5,11 @@ ghost use Rattle.tape_text.specs.Bodies.{bare_in, letter_words, bare_at, key_at,
 ghost use Rattle.tape_text.specs.Bodies.{small_at, small_signed_at, large_at, large_signed_at};
 ghost use Rattle.tape_text.specs.Views.{body_of};
 
-use crate::front::{after, unhexed, word};
-use crate::numbers::{number, signed, wide_number, wide_signed};
-use crate::quoted::{char_at, text_at, unquoted};
 use event_core::ScalarValue;
+use line_text::{
+    after, bytes_at, char_at, number_at, signed_at, text_at, unquoted, wide_number_at,
+    wide_signed_at,
+};
 use shape_types::{Bytes, OutOfMemory, Text};
 use std::alloc::Global;
 
@@ -33,7 +34,7 @@ pub enum LineBody<'de> {
     Scalar(ScalarValue<'de>),
 }
 
-/// A body that is a word of letters, or of a letter and a dash, and what stands behind it.
+/// A body that is a word of letters, or of a letter and a dash, and what stands after it.
 fn word_at(text: &str) -> Option<(LineBody<'_>, &str)>
     ensures { option_map (λ p. (body_of p.0, p.1.now)) result ≡ bare_in letter_words text.now }
 {
@@ -58,7 +59,7 @@ fn word_at(text: &str) -> Option<(LineBody<'_>, &str)>
     None
 }
 
-/// A body that is a word, and what stands behind it.
+/// A body that is a word, and what stands after it.
 #[tactic(auto, unfolding(crate::specs::Bodies::bare_at))]
 fn bare_at(text: &str) -> Option<(LineBody<'_>, &str)>
     ensures { option_map (λ p. (body_of p.0, p.1.now)) result ≡ bare_at text.now }
@@ -81,7 +82,7 @@ fn bare_at(text: &str) -> Option<(LineBody<'_>, &str)>
     word_at(text)
 }
 
-/// The name of a key, and what stands behind it.
+/// The name of a key, and what stands after it.
 #[tactic(auto, unfolding(crate::specs::Bodies::key_at))]
 fn key_at<'de>(
     alloc: Global,
@@ -96,7 +97,7 @@ fn key_at<'de>(
     }
 }
 
-/// A text, and what stands behind it.
+/// A text, and what stands after it.
 #[tactic(auto, unfolding(crate::specs::Bodies::str_at))]
 fn str_at<'de>(
     alloc: Global,
@@ -111,32 +112,27 @@ fn str_at<'de>(
     }
 }
 
-/// A character, and what stands behind it.
+/// A character, and what stands after it.
 #[tactic(auto, unfolding(crate::specs::Bodies::letter_at))]
-fn letter_at<'de>(
-    alloc: Global,
-    text: &'de str,
-) -> Result<Option<(LineBody<'de>, &'de str)>, OutOfMemory>
-    ensures { IfOk result (λ found. option_map (λ p. (body_of p.0, p.1.now)) found ≡ letter_at text.now) }
+fn letter_at(text: &str) -> Option<(LineBody<'_>, &str)>
+    ensures { option_map (λ p. (body_of p.0, p.1.now)) result ≡ letter_at text.now }
 {
-    match char_at(alloc, text) {
-        Ok(Some((c, rest))) => Ok(Some((LineBody::Scalar(ScalarValue::Char(c)), rest))),
-        Ok(None) => Ok(None),
-        Err(refused) => Err(refused),
+    match char_at(text) {
+        Some((c, rest)) => Some((LineBody::Scalar(ScalarValue::Char(c)), rest)),
+        None => None,
     }
 }
 
-/// Bytes in hexadecimal, and what stands behind them.
-#[tactic(auto, unfolding(crate::specs::Bodies::hex_at, crate::specs::Fronts::bytes_at))]
+/// Bytes in hexadecimal, and what stands after them.
+#[tactic(auto, unfolding(crate::specs::Bodies::hex_at))]
 fn hex_at<'de>(
     alloc: Global,
     text: &'de str,
 ) -> Result<Option<(LineBody<'de>, &'de str)>, OutOfMemory>
     ensures { IfOk result (λ found. option_map (λ p. (body_of p.0, p.1.now)) found ≡ hex_at text.now) }
 {
-    let (digits, rest) = word(text);
-    match unhexed(alloc, digits.as_bytes()) {
-        Ok(Some(bytes)) => {
+    match bytes_at(alloc, text) {
+        Ok(Some((bytes, rest))) => {
             let value = ScalarValue::Bytes(Bytes::Owned(bytes));
             Ok(Some((LineBody::Scalar(value), rest)))
         }
@@ -145,7 +141,7 @@ fn hex_at<'de>(
     }
 }
 
-/// The name of a variant behind its first quote, and what stands behind the other.
+/// The name of a variant after its first quote, and what stands after the other.
 #[tactic(auto, unfolding(crate::specs::Bodies::variant_at))]
 fn variant_at(text: &str) -> Option<(LineBody<'_>, &str)>
     ensures { option_map (λ p. (body_of p.0, p.1.now)) result ≡ variant_at text.now }
@@ -156,55 +152,51 @@ fn variant_at(text: &str) -> Option<(LineBody<'_>, &str)>
     }
 }
 
-/// A number of 64 bits, and what stands behind it.
-#[tactic(auto, unfolding(crate::specs::Bodies::small_at, crate::specs::Fronts::number_at))]
+/// A number of 64 bits, and what stands after it.
+#[tactic(auto, unfolding(crate::specs::Bodies::small_at))]
 fn small_at(text: &str) -> Option<(LineBody<'_>, &str)>
     ensures { option_map (λ p. (body_of p.0, p.1.now)) result ≡ small_at text.now }
 {
-    let (digits, rest) = word(text);
-    match number(digits) {
-        Some(n) => Some((LineBody::Scalar(ScalarValue::U64(n)), rest)),
+    match number_at(text) {
+        Some((n, rest)) => Some((LineBody::Scalar(ScalarValue::U64(n)), rest)),
         None => None,
     }
 }
 
-/// A number of 64 bits with a sign, and what stands behind it.
-#[tactic(auto, unfolding(crate::specs::Bodies::small_signed_at, crate::specs::Fronts::signed_at))]
+/// A signed number of 64 bits, and what stands after it.
+#[tactic(auto, unfolding(crate::specs::Bodies::small_signed_at))]
 fn small_signed_at(text: &str) -> Option<(LineBody<'_>, &str)>
     ensures { option_map (λ p. (body_of p.0, p.1.now)) result ≡ small_signed_at text.now }
 {
-    let (digits, rest) = word(text);
-    match signed(digits) {
-        Some(n) => Some((LineBody::Scalar(ScalarValue::I64(n)), rest)),
+    match signed_at(text) {
+        Some((n, rest)) => Some((LineBody::Scalar(ScalarValue::I64(n)), rest)),
         None => None,
     }
 }
 
-/// A number of 128 bits, and what stands behind it.
-#[tactic(auto, unfolding(crate::specs::Bodies::large_at, crate::specs::Fronts::number_at))]
+/// A number of 128 bits, and what stands after it.
+#[tactic(auto, unfolding(crate::specs::Bodies::large_at))]
 fn large_at(text: &str) -> Option<(LineBody<'_>, &str)>
     ensures { option_map (λ p. (body_of p.0, p.1.now)) result ≡ large_at text.now }
 {
-    let (digits, rest) = word(text);
-    match wide_number(digits) {
-        Some(n) => Some((LineBody::Scalar(ScalarValue::U128(n)), rest)),
+    match wide_number_at(text) {
+        Some((n, rest)) => Some((LineBody::Scalar(ScalarValue::U128(n)), rest)),
         None => None,
     }
 }
 
-/// A number of 128 bits with a sign, and what stands behind it.
-#[tactic(auto, unfolding(crate::specs::Bodies::large_signed_at, crate::specs::Fronts::signed_at))]
+/// A signed number of 128 bits, and what stands after it.
+#[tactic(auto, unfolding(crate::specs::Bodies::large_signed_at))]
 fn large_signed_at(text: &str) -> Option<(LineBody<'_>, &str)>
     ensures { option_map (λ p. (body_of p.0, p.1.now)) result ≡ large_signed_at text.now }
 {
-    let (digits, rest) = word(text);
-    match wide_signed(digits) {
-        Some(n) => Some((LineBody::Scalar(ScalarValue::I128(n)), rest)),
+    match wide_signed_at(text) {
+        Some((n, rest)) => Some((LineBody::Scalar(ScalarValue::I128(n)), rest)),
         None => None,
     }
 }
 
-/// The tag of a variant or a number, and what stands behind it.
+/// The tag of a variant or a number, and what stands after it.
 fn plain_at(text: &str) -> Option<(LineBody<'_>, &str)>
     ensures { option_map (λ p. (body_of p.0, p.1.now)) result ≡ body_in plain_rows text.now }
 {
@@ -226,7 +218,7 @@ fn plain_at(text: &str) -> Option<(LineBody<'_>, &str)>
     None
 }
 
-/// A body that is a word and its content, and what stands behind it.
+/// A body that is a word and its content, and what stands after it.
 fn content_at<'de>(
     alloc: Global,
     text: &'de str,
@@ -240,7 +232,7 @@ fn content_at<'de>(
         return str_at(alloc, rest);
     }
     if let Some(rest) = after(text, "c ") {
-        return letter_at(alloc, rest);
+        return Ok(letter_at(rest));
     }
     if let Some(rest) = after(text, "b ") {
         return hex_at(alloc, rest);
@@ -248,7 +240,7 @@ fn content_at<'de>(
     Ok(plain_at(text))
 }
 
-/// The body of a line, and what stands behind it.
+/// The body of a line, and what stands after it.
 #[tactic(auto, unfolding(crate::specs::Bodies::body_at))]
 pub fn body_at<'de>(
     alloc: Global,

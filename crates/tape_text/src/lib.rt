@@ -6,12 +6,9 @@
 mod body;
 mod bytes;
 mod event;
-mod front;
 mod grammar;
 mod line;
-mod numbers;
 mod parser;
-mod quoted;
 mod spelling;
 mod suffix;
 mod writer;

@@ -1,5 +1,5 @@
 //! A line of a tape: its event, or its fault.
-ghost use Rattle.std.specs.Prelude.{◌≡◌, ◌<◌, ◌≤◌, ◌≢◌, ℕ, length, take, get_or, Some, None, MatchOption};
+ghost use Rattle.std.specs.Prelude.{◌≡◌, ◌≤◌, length, take, Some, None};
 ghost use Rattle.std.specs.Str.{chars};
 ghost use Rattle.semantics_lines.specs.Faults.{invalid_utf8, unexpected_char, unexpected_eof};
 ghost use Rattle.semantics_lines.specs.Tapes.{first_or_end};
@@ -9,6 +9,7 @@ ghost use Rattle.tape_text.specs.Parser.{JudgesLine, StandsAt};
 
 use crate::event::event_of;
 use event_core::{DeserializeErrorKind, ParseError, ParseEvent, Span};
+use line_text::line_end;
 use std::alloc::Global;
 
 /// Why no event was read. `'e` is how long the texts of the fault are borrowed.
@@ -70,14 +71,6 @@ fn judged<'de>(alloc: Global, line: &'de [u8], at: usize) -> Result<ParseEvent<'
         Ok(None) => Err(Stop::Bad(no_line(text, span))),
         Err(_) => Err(Stop::NoMemory),
     }
-}
-
-/// Where the first line feed stands.
-fn line_end(bytes: &[u8]) -> Option<usize>
-    ensures { MatchOption result ((k : ℕ) → k < length bytes.now → get_or bytes.now k 0 ≢ 10)
-        (λ end. (end < length bytes.now) × (get_or bytes.now end 0 ≡ 10) × ((k : ℕ) → k < end → get_or bytes.now k 0 ≢ 10)) }
-{
-    bytes.iter().position(|b| *b == b'\n')
 }
 
 /// The fault of bytes that stand there with no line feed.

@@ -5,7 +5,7 @@ ghost use Rattle.semantics_lines.specs.Texts.{is_plain};
 ghost use Rattle.semantics_lines.specs.Lines.{escape, quoted, hex_digit, hex_pair, hex};
 ghost use Rattle.tape_text.specs.Writer.{Adds, body_text};
 
-use crate::quoted::is_plain;
+use line_text::is_plain;
 use shape_types::OutOfMemory;
 
 /// What a line holds before its line feed.

@@ -1,17 +1,16 @@
-//! Reading what stands behind the body of a line: a tag, and then lines of documentation.
+//! Reading what stands after the body of a line: a tag, and then lines of documentation.
 ghost use Rattle.std.specs.Prelude.{◌≡◌, IfOk, length, map};
 ghost use Rattle.std.specs.Option.{option_map};
 ghost use Rattle.shape_types.specs.Texts.{phrase_of};
 ghost use Rattle.event_core.specs.Metadata.{metadata_of};
 ghost use Rattle.tape_text.specs.Suffixes.{tag_at, doc_at, docs_at, with_docs, metadata_at};
 
-use crate::front::after;
-use crate::quoted::text_at;
 use event_core::{Docs, ValueMeta};
+use line_text::{after, text_at};
 use shape_types::{Items, OutOfMemory, Text};
 use std::alloc::Global;
 
-/// A tag, where one stands there, and what stands behind it.
+/// A tag, where one stands there, and what stands after it.
 #[tactic(auto, unfolding(crate::specs::Suffixes::tag_at))]
 fn tag_at<'de>(
     alloc: Global,
@@ -29,7 +28,7 @@ fn tag_at<'de>(
     }
 }
 
-/// A line of documentation, and what stands behind it.
+/// A line of documentation, and what stands after it.
 #[tactic(auto, unfolding(crate::specs::Suffixes::doc_at))]
 fn doc_at<'de>(alloc: Global, text: &'de str) -> Result<Option<(Text<'de>, &'de str)>, OutOfMemory>
     ensures { IfOk result (λ found. option_map (λ p. (phrase_of p.0, p.1.now)) found ≡ doc_at text.now) }
@@ -48,9 +47,9 @@ fn docs_at<'de>(alloc: Global, text: &'de str) -> Result<Option<Docs<'de>>, OutO
     let mut rest = text;
     'docs: while !rest.is_empty() {
         match doc_at(alloc, rest) {
-            Ok(Some((doc, behind))) => {
+            Ok(Some((doc, later))) => {
                 docs.push(doc)?;
-                rest = behind;
+                rest = later;
             }
             Ok(None) => return Ok(None),
             Err(refused) => return Err(refused),

@@ -11,15 +11,15 @@ docs-init c = rw c.new-docs.ensures (read_none c.args.text.now c.utf8.text)
 
 pub docs-smaller : goal.docs-smaller
 docs-smaller c =
-    let read : doc_at c.docs.rest.now ≡ Some (phrase_of c.in-Ok-Some.doc, c.in-Ok-Some.behind.now) = sym (rw c.in-Ok-Some.field-0-is at c.in-Ok-Some.ensures) in
-    doc_shorter c.docs.rest.now c.in-Ok-Some.behind.now (phrase_of c.in-Ok-Some.doc) read
+    let read : doc_at c.docs.rest.now ≡ Some (phrase_of c.in-Ok-Some.doc, c.in-Ok-Some.later.now) = sym (rw c.in-Ok-Some.field-0-is at c.in-Ok-Some.ensures) in
+    doc_shorter c.docs.rest.now c.in-Ok-Some.later.now (phrase_of c.in-Ok-Some.doc) read
 
 pub docs-preserved : goal.docs-preserved
 docs-preserved c =
     let t = phrase_of c.in-Ok-Some.doc in
-    let read : doc_at c.docs.rest.now ≡ Some (t, c.in-Ok-Some.behind.now) = sym (rw c.in-Ok-Some.field-0-is at c.in-Ok-Some.ensures) in
+    let read : doc_at c.docs.rest.now ≡ Some (t, c.in-Ok-Some.later.now) = sym (rw c.in-Ok-Some.field-0-is at c.in-Ok-Some.ensures) in
     let grown : map phrase_of c.push.new.self ≡ map phrase_of c.docs.docs ++ t ∷ [] = ap (map phrase_of) c.in_ok-push-in-Ok-Some.ensures.ok ∙ map-append phrase_of c.docs.docs (c.in-Ok-Some.doc ∷ []) in
-    subst (ReadDocs c.args.text.now c.in-Ok-Some.behind.now) (sym grown) (read_more c.args.text.now c.docs.rest.now c.in-Ok-Some.behind.now (map phrase_of c.docs.docs) t c.docs.invariant read)
+    subst (ReadDocs c.args.text.now c.in-Ok-Some.later.now) (sym grown) (read_more c.args.text.now c.docs.rest.now c.in-Ok-Some.later.now (map phrase_of c.docs.docs) t c.docs.invariant read)
 
 pub returns-in-Ok-None : goal.returns-in-Ok-None
 returns-in-Ok-None c =
