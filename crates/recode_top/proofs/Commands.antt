@@ -5,9 +5,9 @@ use Rattle.std.specs.Fmt.{decimal}
 use Rattle.std.proofs.lemmas.Bool.{false≢true}
 use Rattle.std.proofs.lemmas.Bool.Decides.{Decides-eqb}
 use Rattle.std.proofs.lemmas.Slice.Eq.{slice_eq-Decides}
-use Rattle.laws_lines.specs.ShapeLineReading.{number_of}
+use Rattle.laws_lines.specs.Fronts.{number_of}
+use Rattle.laws_lines.proofs.Numbers.{number-again, number-takes}
 use Rattle.recode_top.specs.Requests.{Request, Asks, by_root, in_full}
-use Rattle.shape_lines.proofs.Decimals.{number-again, number-takes}
 
 pub is_two : (ws : List (List ℕ)) (a b : List ℕ) → length ws ≡ 2 → Some a ≡ slice_get ws 0 → Some b ≡ slice_get ws 1 → ws ≡ a ∷ b ∷ []
 is_two [] a b n p q = grind arith

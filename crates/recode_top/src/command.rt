@@ -4,7 +4,7 @@ ghost use Rattle.std.specs.Fmt.{decimal};
 ghost use Rattle.recode_top.specs.Requests.{Asks, AsksNothing, request_of};
 
 use crate::outside::Words;
-use shape_text::number;
+use line_text::wide_number;
 
 /// How many events may be read ahead, where the words don't say.
 const CAPACITY: usize = 512;
@@ -59,7 +59,7 @@ pub fn asked(words: &Words) -> Option<Request<'_>>
 fn capacity_of(word: &str) -> Option<usize>
     ensures { MatchOption result ((n : ℕ) → n < 2 ^ 64 → word.now ≢ decimal n) (λ n. (word.now ≡ decimal n) × (n < 2 ^ 64)) }
 {
-    let Some(n) = number(word) else {
+    let Some(n) = wide_number(word) else {
         return None;
     };
     if n < 18_446_744_073_709_551_616 {
@@ -74,7 +74,7 @@ fn capacity_of(word: &str) -> Option<usize>
 fn depth_of(word: &str) -> Option<usize>
     ensures { MatchOption result ((n : ℕ) → n ≤ 4096 → word.now ≢ decimal n) (λ n. (word.now ≡ decimal n) × (n ≤ 4096)) }
 {
-    let Some(n) = number(word) else {
+    let Some(n) = wide_number(word) else {
         return None;
     };
     if n <= DEPTH_LIMIT {

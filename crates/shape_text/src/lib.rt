@@ -5,5 +5,5 @@
 
 mod text;
 
-pub use shape_lines::{ReadShapesError, ShapeTextFault, ShapeTextKind, number};
+pub use shape_lines::{ReadShapesError, ShapeTextFault, ShapeTextKind};
 pub use text::read_shapes;
