@@ -16,10 +16,10 @@ pub record IsOther (b : ℕ) : Type 0 where
 pub by_byte : (b : ℕ) (A : Type 0) → (b ≡ 92 → A) → (b ≡ 34 → A) → (b ≡ 10 → A) → (IsOther b → A) → A
 by_byte b A p q r s = elim (cases_eq b 92) [ inl e ↦ p e | inr x ↦ elim (cases_eq b 34) [ inl e ↦ q e | inr y ↦ elim (cases_eq b 10) [ inl e ↦ r e | inr z ↦ s (record { no_slash = x; no_quote = y; no_end = z }) ] ] ]
 
-pub plain-first : (b : ℕ) (t : List ℕ) → is_plain (b ∷ t) ≡ true → IsOther b
+plain-first : (b : ℕ) (t : List ℕ) → is_plain (b ∷ t) ≡ true → IsOther b
 plain-first b t h = record { no_slash = λ e. grind (arith, nat_tests); no_quote = λ e. grind (arith, nat_tests); no_end = λ e. grind (arith, nat_tests) }
 
-pub plain-rest : (b : ℕ) (t : List ℕ) → is_plain (b ∷ t) ≡ true → is_plain t ≡ true
+plain-rest : (b : ℕ) (t : List ℕ) → is_plain (b ∷ t) ≡ true → is_plain t ≡ true
 plain-rest b t h = grind (arith, nat_tests)
 
 plain-more : (b : ℕ) (t : List ℕ) → is_special b ≡ false → is_plain t ≡ true → is_plain (b ∷ t) ≡ true
@@ -32,7 +32,7 @@ pub escape-plain : (t : List ℕ) → is_plain t ≡ true → flat_map escape t 
 escape-plain [] h = refl
 escape-plain (b ∷ t) h = ap (λ x. x ++ flat_map escape t) (escape-other b (plain-first b t h)) ∙ ap (λ x. b ∷ x) (escape-plain t (plain-rest b t h))
 
-unquoted-other : (b : ℕ) (l : List ℕ) → IsOther b → unquoted (b ∷ l) ≡ with_front (b ∷ []) (unquoted l)
+pub unquoted-other : (b : ℕ) (l : List ℕ) → IsOther b → unquoted (b ∷ l) ≡ with_front (b ∷ []) (unquoted l)
 unfolding unquoted
 unquoted-other b l h = let x = h.no_slash in let y = h.no_quote in let z = h.no_end in grind (arith, nat_tests)
 

@@ -1,46 +1,47 @@
 -- A text between quotes, lent from the line where it needs no spelling.
-use Rattle.std.proofs.Common.{ℕ, ◌≡◌, ◌≢◌, List, [], ◌∷◌, ◌++◌, Bool, true, false, Option, Some, None, MatchOption, Bor, length, get_or, zero, suc, ◌<◌, ap, ◌∙◌, sym, refl, arith, lit<}
+use Rattle.std.proofs.Common.{ℕ, zero, suc, ◌+◌, ◌<◌, ◌≡◌, ◌≢◌, List, [], ◌∷◌, ◌++◌, Bool, true, false, Option, Some, None, length, get_or, take, drop, ap, ◌∙◌, sym, refl, arith}
 use Rattle.std.specs.Prelude.{option_map, option_and_then}
 use Rattle.std.specs.List.{flat_map}
-use Rattle.std.proofs.lemmas.Str.Pattern.{split_after, IsSplitOnceResult}
-use Rattle.semantics_lines.specs.Texts.{is_plain}
+use Rattle.std.proofs.lemmas.Bool.Decides.{nat_tests}
+use Rattle.semantics_lines.specs.Texts.{is_special, is_plain}
 use Rattle.semantics_lines.specs.Lines.{escape}
 use Rattle.laws_lines.specs.Fronts.{strip}
-use Rattle.laws_lines.specs.Quoted.{unquoted, unquote, quoted_at, seen, text_at}
-use Rattle.laws_lines.proofs.Plain.{plain-first, plain-rest, escape-plain, unquoted-again, unquoted-takes}
+use Rattle.laws_lines.specs.Quoted.{with_front, unquoted, unquote, quoted_at, seen, text_at}
+use Rattle.laws_lines.proofs.Plain.{IsOther, escape-plain, unquoted-other, unquoted-again, unquoted-takes}
 use Rattle.laws_lines.proofs.Quotes.{unquote-again, unquote-takes}
+use Rattle.line_text.specs.Special.{FindsSpecial}
 
-plain-no_quote : (t : List ℕ) → is_plain t ≡ true → (i : ℕ) → i < length t → get_or t i 0 ≢ 34
-plain-no_quote [] h i l = λ e. omega arith
-plain-no_quote (b ∷ t) h zero l = (plain-first b t h).no_quote
-plain-no_quote (b ∷ t) h (suc i) l = plain-no_quote t (plain-rest b t h) i (omega arith)
+other_is : (b : ℕ) → is_special b ≡ false → IsOther b
+other_is b h = record { no_slash = λ e. grind (arith, nat_tests); no_quote = λ e. grind (arith, nat_tests); no_end = λ e. grind (arith, nat_tests) }
 
--- a plain text before a quote
-pub quote-found : (text inner rest : List ℕ) → text ≡ inner ++ (34 ∷ rest) → is_plain inner ≡ true → unquoted text ≡ Some (inner, rest)
-quote-found text inner rest is plain = ap unquoted is ∙ unquoted-again inner rest plain
+other_first : (b : ℕ) (l : List ℕ) → is_special b ≡ false → unquoted (b ∷ l) ≡ with_front (b ∷ []) (unquoted l)
+other_first b l h = unquoted-other b l (other_is b h)
 
-first_quote : (text t rest : List ℕ) (r : Option (Bor (List ℕ) × Bor (List ℕ))) → IsSplitOnceResult 34 text r → unquoted text ≡ Some (t, rest) → MatchOption r ⊥ (λ x. (x.0.now ≡ t) × (x.1.now ≡ rest))
-first_quote text t rest r h read =
-    let u = unquoted-takes text t rest read in
-    split_after 34 text t rest r h (lit< tt) u.0 (plain-no_quote t u.1)
+-- a quote comes first of what needs a spelling
+pub quote_there : (l : List ℕ) (at : ℕ) → FindsSpecial l (Some at) → get_or l at 0 ≡ 34 → unquoted l ≡ Some (take at l, drop (suc at) l)
+unfolding unquoted
+quote_there [] at f q = absurd (omega (arith, f.0))
+quote_there (b ∷ l) zero f q = (rw q refl)
+quote_there (b ∷ l) (suc at) f q =
+    other_first b l (f.2 0 (omega arith)) ∙ ap (with_front (b ∷ [])) (quote_there l at (omega (arith, f.0), f.1, λ k less. f.2 (suc k) (omega (arith, less))) q)
 
-none_by : (text : List ℕ) (o : Option (List ℕ × List ℕ)) → unquoted text ≡ o → IsSplitOnceResult 34 text None → o ≡ None
-none_by text None e h = refl
-none_by text (Some p) e h = absurd (first_quote text p.0 p.1 None h e)
+special_first : (b : ℕ) (l : List ℕ) → is_special b ≡ true → b ≢ 34 → unquoted (b ∷ l) ≡ None
+unfolding unquoted
+special_first b l s q = grind (arith, nat_tests)
 
-pub quote-none : (text : List ℕ) → IsSplitOnceResult 34 text None → unquoted text ≡ None
-quote-none text h = none_by text (unquoted text) refl h
+-- something else comes first of what needs a spelling
+pub other_there : (l : List ℕ) (at : ℕ) → FindsSpecial l (Some at) → get_or l at 0 ≢ 34 → unquoted l ≡ None
+unfolding unquoted
+other_there [] at f q = absurd (omega (arith, f.0))
+other_there (b ∷ l) zero f q = special_first b l f.1 q
+other_there (b ∷ l) (suc at) f q =
+    other_first b l (f.2 0 (omega arith)) ∙ ap (with_front (b ∷ [])) (other_there l at (omega (arith, f.0), f.1, λ k less. f.2 (suc k) (omega (arith, less))) q)
 
-special_by : (text : List ℕ) (inner rest : Bor (List ℕ)) (o : Option (List ℕ × List ℕ)) → unquoted text ≡ o → IsSplitOnceResult 34 text (Some (inner, rest)) → is_plain inner.now ≡ false → o ≡ None
-special_by text inner rest None e h s = refl
-special_by text inner rest (Some p) e h s =
-    let q = first_quote text p.0 p.1 (Some (inner, rest)) h e in
-    let a : false ≡ true = sym s ∙ ap is_plain q.0 ∙ (unquoted-takes text p.0 p.1 e).1 in
-    absurd (cc a)
-
--- a text before the first quote that isn't plain
-pub quote-special : (text : List ℕ) (inner rest : Bor (List ℕ)) → IsSplitOnceResult 34 text (Some (inner, rest)) → is_plain inner.now ≡ false → unquoted text ≡ None
-quote-special text inner rest h s = special_by text inner rest (unquoted text) refl h s
+-- nothing needs a spelling
+pub none_there : (l : List ℕ) → FindsSpecial l None → unquoted l ≡ None
+unfolding unquoted
+none_there [] f = refl
+none_there (b ∷ l) f = other_first b l (f 0 (omega arith)) ∙ ap (with_front (b ∷ [])) (none_there l (λ k less. f (suc k) (omega (arith, less))))
 
 -- a text that needs no spelling
 

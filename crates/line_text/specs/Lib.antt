@@ -1,3 +1,4 @@
 pub mod Ends
 pub mod Padded
 pub mod Characters
+pub mod Special
