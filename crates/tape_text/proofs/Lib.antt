@@ -1,5 +1,6 @@
 pub mod Suffixes
 pub mod Bare
+pub mod FirstLetters
 pub mod BodyLaws
 pub mod BodyAgain
 pub mod EventLaws

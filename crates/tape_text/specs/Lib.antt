@@ -1,5 +1,6 @@
 pub mod Suffixes
 pub mod Bodies
+pub mod Letters
 pub mod Reading
 pub mod Views
 pub mod Coming

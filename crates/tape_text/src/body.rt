@@ -1,14 +1,13 @@
-//! Reading the body of a line: which event it is.
+//! What a line says before its metadata, and how the content of each body is read.
 ghost use Rattle.std.specs.Prelude.{◌≡◌, IfOk};
 ghost use Rattle.std.specs.Option.{option_map};
-ghost use Rattle.tape_text.specs.Bodies.{bare_in, letter_words, bare_at, key_at, str_at, letter_at, hex_at, variant_at, body_in, plain_rows, rows, body_at};
+ghost use Rattle.tape_text.specs.Bodies.{key_at, str_at, letter_at, hex_at, variant_at};
 ghost use Rattle.tape_text.specs.Bodies.{small_at, small_signed_at, large_at, large_signed_at};
 ghost use Rattle.tape_text.specs.Views.{body_of};
 
 use event_core::ScalarValue;
 use line_text::{
-    after, bytes_at, char_at, number_at, signed_at, text_at, unquoted, wide_number_at,
-    wide_signed_at,
+    bytes_at, char_at, number_at, signed_at, text_at, unquoted, wide_number_at, wide_signed_at,
 };
 use shape_types::{Bytes, OutOfMemory, Text};
 use std::alloc::Global;
@@ -34,57 +33,9 @@ pub enum LineBody<'de> {
     Scalar(ScalarValue<'de>),
 }
 
-/// A body that is a word of letters, or of a letter and a dash, and what stands after it.
-fn word_at(text: &str) -> Option<(LineBody<'_>, &str)>
-    ensures { option_map (λ p. (body_of p.0, p.1.now)) result ≡ bare_in letter_words text.now }
-{
-    if let Some(rest) = after(text, "unit") {
-        return Some((LineBody::Scalar(ScalarValue::Unit), rest));
-    }
-    if let Some(rest) = after(text, "null") {
-        return Some((LineBody::Scalar(ScalarValue::Null), rest));
-    }
-    if let Some(rest) = after(text, "true") {
-        return Some((LineBody::Scalar(ScalarValue::Bool(true)), rest));
-    }
-    if let Some(rest) = after(text, "false") {
-        return Some((LineBody::Scalar(ScalarValue::Bool(false)), rest));
-    }
-    if let Some(rest) = after(text, "k -") {
-        return Some((LineBody::Key(None), rest));
-    }
-    if let Some(rest) = after(text, "v -") {
-        return Some((LineBody::Tag(None), rest));
-    }
-    None
-}
-
-/// A body that is a word, and what stands after it.
-#[tactic(auto, unfolding(crate::specs::Bodies::bare_at))]
-fn bare_at(text: &str) -> Option<(LineBody<'_>, &str)>
-    ensures { option_map (λ p. (body_of p.0, p.1.now)) result ≡ bare_at text.now }
-{
-    if let Some(rest) = after(text, "{") {
-        return Some((LineBody::StructStart, rest));
-    }
-    if let Some(rest) = after(text, "}") {
-        return Some((LineBody::StructEnd, rest));
-    }
-    if let Some(rest) = after(text, "[") {
-        return Some((LineBody::SequenceStart, rest));
-    }
-    if let Some(rest) = after(text, "]") {
-        return Some((LineBody::SequenceEnd, rest));
-    }
-    if let Some(rest) = after(text, "o") {
-        return Some((LineBody::OrderedField, rest));
-    }
-    word_at(text)
-}
-
 /// The name of a key, and what stands after it.
 #[tactic(auto, unfolding(crate::specs::Bodies::key_at))]
-fn key_at<'de>(
+pub(crate) fn key_at<'de>(
     alloc: Global,
     text: &'de str,
 ) -> Result<Option<(LineBody<'de>, &'de str)>, OutOfMemory>
@@ -99,7 +50,7 @@ fn key_at<'de>(
 
 /// A text, and what stands after it.
 #[tactic(auto, unfolding(crate::specs::Bodies::str_at))]
-fn str_at<'de>(
+pub(crate) fn str_at<'de>(
     alloc: Global,
     text: &'de str,
 ) -> Result<Option<(LineBody<'de>, &'de str)>, OutOfMemory>
@@ -114,7 +65,7 @@ fn str_at<'de>(
 
 /// A character, and what stands after it.
 #[tactic(auto, unfolding(crate::specs::Bodies::letter_at))]
-fn letter_at(text: &str) -> Option<(LineBody<'_>, &str)>
+pub(crate) fn letter_at(text: &str) -> Option<(LineBody<'_>, &str)>
     ensures { option_map (λ p. (body_of p.0, p.1.now)) result ≡ letter_at text.now }
 {
     match char_at(text) {
@@ -125,7 +76,7 @@ fn letter_at(text: &str) -> Option<(LineBody<'_>, &str)>
 
 /// Bytes in hexadecimal, and what stands after them.
 #[tactic(auto, unfolding(crate::specs::Bodies::hex_at))]
-fn hex_at<'de>(
+pub(crate) fn hex_at<'de>(
     alloc: Global,
     text: &'de str,
 ) -> Result<Option<(LineBody<'de>, &'de str)>, OutOfMemory>
@@ -143,7 +94,7 @@ fn hex_at<'de>(
 
 /// The name of a variant after its first quote, and what stands after the other.
 #[tactic(auto, unfolding(crate::specs::Bodies::variant_at))]
-fn variant_at(text: &str) -> Option<(LineBody<'_>, &str)>
+pub(crate) fn variant_at(text: &str) -> Option<(LineBody<'_>, &str)>
     ensures { option_map (λ p. (body_of p.0, p.1.now)) result ≡ variant_at text.now }
 {
     match unquoted(text) {
@@ -154,7 +105,7 @@ fn variant_at(text: &str) -> Option<(LineBody<'_>, &str)>
 
 /// A number of 64 bits, and what stands after it.
 #[tactic(auto, unfolding(crate::specs::Bodies::small_at))]
-fn small_at(text: &str) -> Option<(LineBody<'_>, &str)>
+pub(crate) fn small_at(text: &str) -> Option<(LineBody<'_>, &str)>
     ensures { option_map (λ p. (body_of p.0, p.1.now)) result ≡ small_at text.now }
 {
     match number_at(text) {
@@ -165,7 +116,7 @@ fn small_at(text: &str) -> Option<(LineBody<'_>, &str)>
 
 /// A signed number of 64 bits, and what stands after it.
 #[tactic(auto, unfolding(crate::specs::Bodies::small_signed_at))]
-fn small_signed_at(text: &str) -> Option<(LineBody<'_>, &str)>
+pub(crate) fn small_signed_at(text: &str) -> Option<(LineBody<'_>, &str)>
     ensures { option_map (λ p. (body_of p.0, p.1.now)) result ≡ small_signed_at text.now }
 {
     match signed_at(text) {
@@ -176,7 +127,7 @@ fn small_signed_at(text: &str) -> Option<(LineBody<'_>, &str)>
 
 /// A number of 128 bits, and what stands after it.
 #[tactic(auto, unfolding(crate::specs::Bodies::large_at))]
-fn large_at(text: &str) -> Option<(LineBody<'_>, &str)>
+pub(crate) fn large_at(text: &str) -> Option<(LineBody<'_>, &str)>
     ensures { option_map (λ p. (body_of p.0, p.1.now)) result ≡ large_at text.now }
 {
     match wide_number_at(text) {
@@ -187,69 +138,11 @@ fn large_at(text: &str) -> Option<(LineBody<'_>, &str)>
 
 /// A signed number of 128 bits, and what stands after it.
 #[tactic(auto, unfolding(crate::specs::Bodies::large_signed_at))]
-fn large_signed_at(text: &str) -> Option<(LineBody<'_>, &str)>
+pub(crate) fn large_signed_at(text: &str) -> Option<(LineBody<'_>, &str)>
     ensures { option_map (λ p. (body_of p.0, p.1.now)) result ≡ large_signed_at text.now }
 {
     match wide_signed_at(text) {
         Some((n, rest)) => Some((LineBody::Scalar(ScalarValue::I128(n)), rest)),
         None => None,
-    }
-}
-
-/// The tag of a variant or a number, and what stands after it.
-fn plain_at(text: &str) -> Option<(LineBody<'_>, &str)>
-    ensures { option_map (λ p. (body_of p.0, p.1.now)) result ≡ body_in plain_rows text.now }
-{
-    if let Some(rest) = after(text, "v \"") {
-        return variant_at(rest);
-    }
-    if let Some(rest) = after(text, "u ") {
-        return small_at(rest);
-    }
-    if let Some(rest) = after(text, "i ") {
-        return small_signed_at(rest);
-    }
-    if let Some(rest) = after(text, "U ") {
-        return large_at(rest);
-    }
-    if let Some(rest) = after(text, "I ") {
-        return large_signed_at(rest);
-    }
-    None
-}
-
-/// A body that is a word and its content, and what stands after it.
-fn content_at<'de>(
-    alloc: Global,
-    text: &'de str,
-) -> Result<Option<(LineBody<'de>, &'de str)>, OutOfMemory>
-    ensures { IfOk result (λ found. option_map (λ p. (body_of p.0, p.1.now)) found ≡ body_in rows text.now) }
-{
-    if let Some(rest) = after(text, "k ") {
-        return key_at(alloc, rest);
-    }
-    if let Some(rest) = after(text, "s ") {
-        return str_at(alloc, rest);
-    }
-    if let Some(rest) = after(text, "c ") {
-        return Ok(letter_at(rest));
-    }
-    if let Some(rest) = after(text, "b ") {
-        return hex_at(alloc, rest);
-    }
-    Ok(plain_at(text))
-}
-
-/// The body of a line, and what stands after it.
-#[tactic(auto, unfolding(crate::specs::Bodies::body_at))]
-pub fn body_at<'de>(
-    alloc: Global,
-    text: &'de str,
-) -> Result<Option<(LineBody<'de>, &'de str)>, OutOfMemory>
-    ensures { IfOk result (λ found. option_map (λ p. (body_of p.0, p.1.now)) found ≡ body_at text.now) }
-{
-    match bare_at(text) {
-        Some(found) => Ok(Some(found)),
-        None => content_at(alloc, text),
     }
 }

@@ -11,7 +11,8 @@ ghost use Rattle.tape_text.specs.Reading.{told, noted, line_note, key_with, even
 ghost use Rattle.tape_text.specs.Suffixes.{metadata};
 ghost use Rattle.tape_text.specs.Views.{body_of};
 
-use crate::body::{LineBody, body_at};
+use crate::body::LineBody;
+use crate::letters::body_at;
 use crate::suffix::metadata_at;
 use event_core::{
     ContainerKind, FieldKey, FieldLocationHint, FullFieldKey, ParseEvent, ParseEventKind,

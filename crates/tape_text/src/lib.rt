@@ -7,6 +7,7 @@ mod body;
 mod bytes;
 mod event;
 mod grammar;
+mod letters;
 mod line;
 mod parser;
 mod spelling;
