@@ -1,5 +1,5 @@
 -- What `parse` tells of a decimal, and what stands in front of one.
-use Rattle.std.proofs.Common.{ℕ, ◌+◌, ◌*◌, ◌/◌, ◌%◌, ◌^◌, ◌<◌, ◌≤◌, ◌≡◌, ◌≢◌, List, [], ◌∷◌, ◌++◌, Bool, true, false, eqb, ltb, ◌&&◌, Option, None, Some, Result, Ok, Err, length, get_or, sym, refl, ap, ◌∙◌, subst, arith, ◌||◌, suc, length-append, append_assoc, append-nil}
+use Rattle.std.proofs.Common.{ℕ, ◌+◌, ◌*◌, ◌/◌, ◌%◌, ◌^◌, ◌<◌, ◌≤◌, ◌≡◌, ◌≢◌, List, [], ◌∷◌, ◌++◌, true, false, eqb, ltb, ◌&&◌, None, Some, Result, Ok, Err, length, get_or, sym, ap, ◌∙◌, subst, arith, ◌||◌, suc, length-append, append_assoc, append-nil}
 use Rattle.std.proofs.lemmas.Bool.Decides.{nat_tests}
 use Rattle.std.proofs.lemmas.Str.{digit_value_digit}
 use Rattle.std.proofs.lemmas.Str.Parse.{digit_from_value, numerals_by_value, tells_digits, parse_plain}

@@ -1,9 +1,8 @@
 -- The body of a line is read as what it says.
-use Rattle.std.proofs.Common.{ℕ, ◌^◌, ◌<◌, ◌≡◌, ◌⊎◌, List, [], ◌∷◌, ◌++◌, true, cond, Option, Some, None, sym, refl, ap, ◌∙◌, subst, inl, inr, arith, append_assoc}
-use Rattle.std.specs.Prelude.{nat_lt, codes, encode_utf8}
+use Rattle.std.proofs.Common.{ℕ, ◌≡◌, ◌⊎◌, List, [], ◌∷◌, ◌++◌, cond, Option, Some, None, sym, refl, ap, ◌∙◌, subst, inl, inr, append_assoc}
+use Rattle.std.specs.Prelude.{codes, encode_utf8}
 use Rattle.std.specs.Fmt.{decimal, signed_decimal}
 use Rattle.std.specs.Option.{option_or}
-use Rattle.std.proofs.lemmas.Bool.Decides.{nat_tests}
 use Rattle.semantics_lines.specs.Events.{char, i64, u64, i128, u128, str, of_struct, of_sequence}
 use Rattle.semantics_lines.specs.Lines.{quoted, hex, after, scalar_body, tag_body, IsTapeText, IsTapeScalar}
 use Rattle.laws_lines.specs.Fronts.{strip, number_at, signed_at, bytes_at}

@@ -7,7 +7,7 @@ use Rattle.std.proofs.lemmas.Bool.Decides.{nat_tests}
 use Rattle.std.proofs.lemmas.Str.{encode_ascii, inside_one, length-encode, len_utf8_bounds}
 use lib.Utf8.{encode}
 use Rattle.laws_lines.specs.Fronts.{strip}
-use Rattle.tape_text.specs.Bodies.{Body, Found, Reader, fixed, bare_in, bare_words, bare_at, by_word, body_in, rows, body_at}
+use Rattle.tape_text.specs.Bodies.{Body, Found, Reader, bare_in, bare_words, bare_at, by_word, body_in, rows, body_at}
 use Rattle.tape_text.specs.Letters.{body_after}
 
 or_none : (o : Found) → option_or o None ≡ o

@@ -1,4 +1,4 @@
-use Rattle.std.proofs.Common.{ℕ, List, Bor, ◌+◌, ◌-◌, ◌<◌, ◌≡◌, ◌≢◌, Some, None, get_or, take, drop, suc, sym, ap, ap₂, ◌∙◌, subst, arith}
+use Rattle.std.proofs.Common.{ℕ, List, Bor, ◌+◌, ◌-◌, ◌≡◌, Some, None, get_or, take, drop, suc, sym, ap, ap₂, ◌∙◌, subst, arith}
 use Rattle.std.specs.Option.{option_map}
 use Rattle.std.proofs.lemmas.Bool.Decides.{nat_tests}
 use Rattle.std.proofs.lemmas.Str.{IsCharBoundary-after_ascii}
