@@ -1,4 +1,5 @@
 pub mod Prefixes
+pub mod LineFeeds
 pub mod Decimals
 pub mod Pairs
 pub mod TextSteps
