@@ -1,5 +1,7 @@
+pub mod Cycles
 pub mod Drafts
 pub mod Lists
+pub mod Tables
 pub mod Typing
 pub mod Undeclared
 pub mod Walks

@@ -4,7 +4,6 @@ use Rattle.std.specs.Str.{is_utf8}
 use Rattle.semantics_lines.specs.Shapes as mirror
 use Rattle.semantics.specs.Registry.{IsFirstFault, definition_is_utf8}
 use Rattle.shape_types.specs.Faults.{shape_fault_of}
-use Rattle.shape_types.specs.declared.draft.Draft.{Draft}
 use Rattle.shape_types.specs.declared.fault.CheckFault.{CheckFault}
 use Rattle.shape_types.specs.declared.fault.CheckFault.TheVariants as check_fault
 

@@ -1,2 +1,4 @@
 pub mod Base
 pub mod Builder
+pub mod Names
+pub mod Walks

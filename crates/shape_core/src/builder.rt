@@ -91,12 +91,12 @@ impl<'v> Shapes<'v> {
         ensures cause { IfErr result (λ fault. IsCheckFault (drafts_of builder.entry) fault) }
     {
         let drafts = builder.into_vec();
-        if let Some(fault) = first_fault(&drafts) {
+        if let Some(fault) = first_fault(alloc, &drafts)? {
             return Err(CheckFault::Fault(fault));
         }
         drafts_utf8(&drafts);
         let shapes = finished(alloc, drafts)?;
-        Ok(Shapes::from_items(shapes))
+        Ok(Shapes::from_items(alloc, shapes)?)
     }
 }
 

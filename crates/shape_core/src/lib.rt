@@ -10,6 +10,7 @@ mod check;
 mod defaults;
 mod forms;
 mod kinds;
+mod names;
 mod rules;
 mod shapes;
 mod steps;

@@ -1,10 +1,13 @@
 //! The rules that a registry keeps, one function a rule.
-ghost use Rattle.std.specs.Prelude.{◌≡◌, ◌≤◌, length, map, take, option_map, bytes_eq};
+ghost use Rattle.std.specs.Prelude.{◌≡◌, Some, map, option_map, slice_get, IfOk};
 ghost use Rattle.std.specs.List.{list_any};
-ghost use Rattle.semantics.specs.Registry.{on_definition, on_fields, has_pair, is_missing, dangles, is_undefined, repeats_shape_name, repeats_field, repeats_variant, repeats_name, is_long, has_many_variants, has_too_many};
+ghost use Rattle.semantics.specs.Registry.{on_definition, on_fields, is_missing, dangles, is_undefined, repeats_shape_name, repeats_field, repeats_variant, repeats_name, is_long, has_many_variants, has_too_many};
+ghost use Rattle.shape_core.specs.Names.{AreRepeats};
 ghost use Rattle.shape_types.specs.Shapes.{field_of, variant_of, definition_of, draft_of, drafts_of};
 
-use shape_types::{Def, Draft, Field, ShapeId, Variant};
+use crate::names::{fields_repeat, variants_repeat};
+use shape_types::{Def, Draft, Field, Items, OutOfMemory, ShapeId, Variant};
+use std::alloc::Global;
 
 /// The most shapes of a registry, fields of a struct or variant, and variants of an enum.
 pub const LIMIT: usize = 65535;
@@ -72,115 +75,67 @@ pub fn is_undefined(count: usize, def: &Option<Def>) -> bool
     }
 }
 
-fn has_shape_name(drafts: &[Draft], draft: &Draft) -> bool
-    ensures { result ≡ list_any (λ e. bytes_eq e.name draft.now.name) drafts.now }
-{
-    for other in drafts {
-        if other.name == draft.name {
-            return true;
-        }
-    }
-    false
-}
-
 /// One of the first `at` shapes has the name of this one.
-#[tactic(auto, using(crate::proofs::Lists::list_any_map, crate::proofs::Lists::take_map))]
-pub fn repeats_shape_name(drafts: &[Draft], at: usize, draft: &Draft) -> bool
-    requires { at ≤ length drafts.now }
-    ensures { result ≡ repeats_shape_name (drafts_of drafts.now) at (draft_of draft.now) }
+pub fn repeats_shape_name(
+    _drafts: &[Draft],
+    repeats: &Items<bool>,
+    at: usize,
+    _draft: &Draft,
+) -> bool
+    requires repeats { AreRepeats _drafts.now repeats.now }
+    requires here { slice_get _drafts.now at ≡ Some _draft.now }
+    ensures { result ≡ repeats_shape_name (drafts_of _drafts.now) at (draft_of _draft.now) }
 {
-    has_shape_name(&drafts[..at], draft)
+    match repeats.get(at) {
+        Some(is_repeated) => *is_repeated,
+        None => false,
+    }
 }
 
-fn has_field_name(field: &Field, others: &[Field]) -> bool
-    ensures { result ≡ list_any (λ e. bytes_eq field.now.name e.name) others.now }
+fn repeats_field(alloc: Global, fields: &[Field]) -> Result<bool, OutOfMemory>
+    ensures { IfOk result (λ found. found ≡ repeats_field (map field_of fields.now)) }
 {
-    for other in others {
-        if field.name == other.name {
-            return true;
+    fields_repeat(alloc, fields)
+}
+
+fn variants_repeat_field(alloc: Global, variants: &[Variant]) -> Result<bool, OutOfMemory>
+    ensures { IfOk result (λ found. found ≡ list_any (λ v. repeats_field (variant_of v).fields) variants.now) }
+{
+    'variants: for variant in variants {
+        if repeats_field(alloc, variant.fields.as_slice())? {
+            return Ok(true);
         }
     }
-    false
+    Ok(false)
 }
 
 #[tactic(auto, using(crate::proofs::Lists::list_any_map))]
-fn repeats_field(fields: &[Field]) -> bool
-    ensures { result ≡ repeats_field (map field_of fields.now) }
-{
-    let mut left = fields.iter();
-    while let Some(first) = left.next() {
-        let rest = left.as_slice();
-        if has_field_name(first, rest) {
-            return true;
-        }
-    }
-    false
-}
-
-fn variant_repeats_field(variant: &Variant) -> bool
-    ensures { result ≡ repeats_field (variant_of variant.now).fields }
-{
-    repeats_field(variant.fields.as_slice())
-}
-
-fn variants_repeat_field(variants: &[Variant]) -> bool
-    ensures { result ≡ list_any (λ v. repeats_field (variant_of v).fields) variants.now }
-{
-    variants.iter().any(variant_repeats_field)
-}
-
-fn has_variant_name(variant: &Variant, others: &[Variant]) -> bool
-    ensures { result ≡ list_any (λ w. bytes_eq variant.now.name w.name) others.now }
-{
-    for other in others {
-        if variant.name == other.name {
-            return true;
-        }
-    }
-    false
-}
-
-#[tactic(auto, using(crate::proofs::Lists::list_any_map))]
-fn variants_repeat(variants: &[Variant]) -> bool
-    ensures { result ≡ has_pair (λ v w. bytes_eq v.name w.name) (map variant_of variants.now) }
-{
-    let mut left = variants.iter();
-    while let Some(first) = left.next() {
-        let rest = left.as_slice();
-        if has_variant_name(first, rest) {
-            return true;
-        }
-    }
-    false
-}
-
-#[tactic(auto, using(crate::proofs::Lists::list_any_map))]
-fn some_repeat_field(def: &Def) -> bool
-    ensures { result ≡ on_fields repeats_field (definition_of def.now) }
+fn some_repeat_field(alloc: Global, def: &Def) -> Result<bool, OutOfMemory>
+    ensures { IfOk result (λ found. found ≡ on_fields repeats_field (definition_of def.now)) }
 {
     match def {
-        Def::Struct(def) => repeats_field(def.fields.as_slice()),
-        Def::Enum(def) => variants_repeat_field(def.variants.as_slice()),
-        _ => false,
+        Def::Struct(def) => repeats_field(alloc, def.fields.as_slice()),
+        Def::Enum(def) => variants_repeat_field(alloc, def.variants.as_slice()),
+        _ => Ok(false),
     }
 }
 
-fn repeats_variant(def: &Def) -> bool
-    ensures { result ≡ repeats_variant (definition_of def.now) }
+fn repeats_variant(alloc: Global, def: &Def) -> Result<bool, OutOfMemory>
+    ensures { IfOk result (λ found. found ≡ repeats_variant (definition_of def.now)) }
 {
     match def {
-        Def::Enum(def) => variants_repeat(def.variants.as_slice()),
-        _ => false,
+        Def::Enum(def) => variants_repeat(alloc, def.variants.as_slice()),
+        _ => Ok(false),
     }
 }
 
 /// Two fields of one struct or variant have one name, or two variants of one enum.
-pub fn repeats_name(def: &Option<Def>) -> bool
-    ensures { result ≡ on_definition (option_map definition_of def.now) repeats_name }
+pub fn repeats_name(alloc: Global, def: &Option<Def>) -> Result<bool, OutOfMemory>
+    ensures { IfOk result (λ found. found ≡ on_definition (option_map definition_of def.now) repeats_name) }
 {
     match def {
-        None => false,
-        Some(def) => some_repeat_field(def) || repeats_variant(def),
+        None => Ok(false),
+        Some(def) => Ok(some_repeat_field(alloc, def)? || repeats_variant(alloc, def)?),
     }
 }
 

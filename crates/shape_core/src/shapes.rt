@@ -1,10 +1,12 @@
-ghost use Rattle.std.specs.Prelude.{◌≡◌, length, nat_lt, slice_get, option_map, bytes_eq};
+ghost use Rattle.std.specs.Prelude.{◌≡◌, length, nat_lt, slice_get, option_map, bytes_eq, IfOk};
 ghost use Rattle.std.specs.List.{position};
 ghost use Rattle.std.specs.Option.{option_copied};
 ghost use Rattle.semantics.specs.Registry.{IsRegistry};
 ghost use Rattle.shape_types.specs.Shapes.{shape_of, registry};
 
-use shape_types::{Items, Shape, ShapeId};
+use crate::names::{Numbers, numbers_of};
+use shape_types::{Items, OutOfMemory, Shape, ShapeId};
+use std::alloc::Global;
 use std::marker::Model;
 
 /// A checked registry: shapes by their numbers, which keep every rule of [`crate::ShapeFaultKind`].
@@ -14,6 +16,7 @@ use std::marker::Model;
 #[derive(Drop)]
 pub struct Shapes<'v> {
     shapes: Items<Shape<'v>>,
+    numbers: Numbers,
 }
 
 impl<'v> Model for Shapes<'v> {
@@ -22,8 +25,7 @@ impl<'v> Model for Shapes<'v> {
     ghost use Rattle.std.specs.Coded.{coded_list};
     ghost use Rattle.shape_types.specs.declared.shape.Shape.{Shape};
     ghost use Rattle.shape_types.specs.contracts.shape.Shape.{the_row};
-    ghost use Rattle.semantics.specs.Registry.{IsRegistry};
-    ghost use Rattle.shape_types.specs.Shapes.{registry};
+    ghost use Rattle.shape_core.specs.Names.{AreShapes};
 
     ghost Value = { List Shape };
 
@@ -31,16 +33,20 @@ impl<'v> Model for Shapes<'v> {
 
     ghost view = { λ s. s.shapes };
 
-    ghost invariant = { λ s. IsRegistry (registry s.shapes) };
+    ghost invariant = { λ s. AreShapes s.shapes s.numbers };
 }
 
 impl<'v> Shapes<'v> {
     /// The shapes of a registry that keeps every rule.
-    pub(crate) fn from_items(shapes: Items<Shape<'v>>) -> Shapes<'v>
+    pub(crate) fn from_items(
+        alloc: Global,
+        shapes: Items<Shape<'v>>,
+    ) -> Result<Shapes<'v>, OutOfMemory>
         requires { IsRegistry (registry shapes) }
-        ensures { result ≡ shapes.entry }
+        ensures { IfOk result (λ made. made ≡ shapes.entry) }
     {
-        Shapes { shapes }
+        let numbers = numbers_of(alloc, shapes.as_slice())?;
+        Ok(Shapes { shapes, numbers })
     }
 
     /// The shape of this number. None where there is no such shape.
@@ -63,8 +69,8 @@ impl<'v> Shapes<'v> {
     pub fn find(&self, name: &str) -> Option<ShapeId>
         ensures { option_map (λ id. id.0) result ≡ position (λ s. bytes_eq s.name name.now) (registry self.now) }
     {
-        let at = place_of(self.shapes.as_slice(), name)?;
-        Some(ShapeId(at as u32))
+        let number = self.numbers.get(name)?;
+        Some(ShapeId(*number))
     }
 
     /// The shapes in the order of their numbers.
@@ -80,10 +86,4 @@ impl<'v> Shapes<'v> {
     {
         let _ = &self.shapes;
     }
-}
-
-fn place_of(shapes: &[Shape], name: &str) -> Option<usize>
-    ensures { result ≡ position (λ s. bytes_eq s.name name.now) shapes.now }
-{
-    shapes.iter().position(|shape| shape.name.as_str() == name)
 }

@@ -1,10 +1,14 @@
-use Rattle.std.proofs.Common.{◌∙◌, [], sym, ap, length, option_map}
-use Rattle.std.specs.List.{cons_option}
-use Rattle.shape_types.specs.Shapes.{drafts_of}
-use Rattle.shape_core.proofs.Walks.{next_step}
+use Rattle.std.proofs.Common.{ℕ, ◌<◌, sym, ap, ◌∙◌, subst}
+use Rattle.std.specs.Option.{option_copied}
+use Rattle.shape_types.specs.Shapes.{draft_of, drafts_of}
+use Rattle.shape_core.specs.Walks.{AreWalks}
+use Rattle.shape_core.proofs.Cycles.{own_least}
+use Rattle.shape_core.proofs.Lists.{length_map}
 use Rattle.shape_core.proofs.steps.lies_on_cycle.Goals as goal
 
-pub walk-preserved : goal.walk-preserved
-walk-preserved c =
-    let there = sym (ap (λ o. cons_option (option_map (λ id. id.0) o) []) c.in-Some.is) ∙ c.step_from.ensures in
-    sym (next_step (drafts_of c.args.drafts.now) (length c.args.drafts.now) c.walk._step c.args.at c.walk.from c.in-Some.next.0 c.walk-test.true there c.if-from-at.false) ∙ c.walk.invariant
+pub returns-in-Some : goal.returns-in-Some
+returns-in-Some c =
+    let ds = drafts_of c.args._drafts.now in
+    let many = sym (length_map draft_of c.args._drafts.now) in
+    let walks = subst (λ (n : ℕ). AreWalks ds n c.args.walks.now) many c.requires.walks in
+    own_least ds c.args.walks.now c.args.at c.in-Some.walk.now walks c.requires.before (subst (λ (n : ℕ). c.args.at < n) many c.requires.there) (sym c.get.ensures ∙ ap option_copied c.in-Some.is)
