@@ -1,5 +1,5 @@
 -- The shapes of a text, defined one by one.
-use Rattle.std.proofs.Common.{ℕ, ◌+◌, ◌<◌, ◌≤◌, ◌≡◌, List, [], ◌∷◌, ◌++◌, true, false, ◌&&◌, Option, Some, length, map, refl, sym, ap, ◌∙◌, subst, arith, append_assoc, append-nil, length-append, Bor, take, drop, get_or}
+use Rattle.std.proofs.Common.{ℕ, ◌+◌, ◌<◌, ◌≤◌, ◌≡◌, List, [], ◌∷◌, ◌++◌, true, false, ◌&&◌, Option, Some, length, map, refl, sym, ap, ◌∙◌, subst, arith, append_assoc, append-nil, length-append, take, drop, get_or}
 use Rattle.std.specs.Prelude.{IfSome, slice_get, slice_set}
 use Rattle.std.specs.List.{list_all}
 use Rattle.std.proofs.Math.Seq.{set-append_seam}
@@ -15,7 +15,7 @@ use Rattle.laws_lines.proofs.Tests.{both}
 use Rattle.shape_lines.specs.declared.shape_fault.ShapeTextFault.{ShapeTextFault}
 use Rattle.shape_lines.specs.declared.shape_line.ShapeLine as declared
 use Rattle.shape_lines.specs.ShapeErrors.{text_kind}
-use Rattle.shape_lines.specs.ShapeLines.{shape_line, texts}
+use Rattle.shape_lines.specs.ShapeLines.{shape_line}
 use Rattle.shape_lines.specs.ShapeReading.{named_drafts, Defining}
 use Rattle.shape_lines.specs.ShapeScopes.{IsFirstUnknown}
 use Rattle.shape_lines.proofs.LineSteps.{scalar_count, names_push, other_names}
@@ -188,6 +188,6 @@ pub count_other : (lines : List declared.ShapeLine) (at : ℕ) (x d : declared.S
 count_other lines at x d lt is head =
     omega (arith, ap shape_count (before_at lines at x d lt is), ap length (names_push (map shape_line (take at lines)) (shape_line x)), length-append (shape_names (map shape_line (take at lines))) (head_names (shape_line x)), ap length (other_names (shape_line x) head))
 
-pub names_few : (names : List (Bor (List ℕ))) (ls : List ShapeLine) → texts names ≡ all_names ls → AreLines ls → length names ≤ 65535
+pub names_few : (names : List (List ℕ)) (ls : List ShapeLine) → names ≡ all_names ls → AreLines ls → length names ≤ 65535
 names_few names ls is good =
-    omega (arith, good.few, ap length is, length-map names (λ (r : Bor (List ℕ)). r.now), length-append (map name_of scalar_drafts) (shape_names ls), length-map scalar_drafts name_of, scalar_count)
+    omega (arith, good.few, ap length is, length-append (map name_of scalar_drafts) (shape_names ls), length-map scalar_drafts name_of, scalar_count)

@@ -1,5 +1,6 @@
 pub mod Quotes
 pub mod FirstLines
 pub mod Names
+pub mod Numbers
 pub mod LineSteps
 pub mod Defining

@@ -1,4 +1,5 @@
 pub mod ShapeLines
+pub mod ShapeNumbers
 pub mod ShapePlaces
 pub mod ShapeScopes
 pub mod ShapeReading

@@ -10,10 +10,9 @@ use Rattle.shape_lines.specs.declared.shape_fault.ShapeTextFault.{ShapeTextFault
 use Rattle.shape_lines.specs.declared.shape_fault.ReadShapesError.{ReadShapesError}
 use Rattle.shape_lines.specs.declared.shape_fault.ReadShapesError.TheVariants as error
 use Rattle.shape_lines.specs.ShapeErrors.{text_kind}
-use Rattle.shape_lines.specs.ShapeLines.{texts}
 
 abbrev pub scope_view : Scope → text.Scope
-scope_view s = record { names = texts s.names.now; maps = s.maps.now }
+scope_view s = record { names = s.names.now; maps = s.maps.now }
 
 -- the scalars are no maps
 abbrev pub scalar_maps : List Bool

@@ -26,10 +26,10 @@ pub fn describe(
     ensures refused { IfErr result (λ error. IsReferenceFault (all_names (map shape_line lines.now)) (map shape_line lines.now) error) }
 {
     let names = all_names(alloc, lines)?;
-    check_references(names.as_slice(), lines)?;
+    check_references(&names, lines)?;
     let maps = all_maps(alloc, lines)?;
     let scope = Scope {
-        names: names.as_slice(),
+        names: &names,
         maps: maps.as_slice(),
     };
     define_shapes(alloc, scope, lines, builder)?;

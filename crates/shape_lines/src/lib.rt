@@ -13,6 +13,7 @@ mod shape_line;
 mod shape_lines;
 mod shape_members;
 mod shape_names;
+mod shape_numbers;
 mod shape_place;
 mod shape_quoted;
 mod shape_reading;

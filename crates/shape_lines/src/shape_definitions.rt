@@ -69,7 +69,7 @@ fn form(alloc: Global, line: FormLine<'_>) -> Result<EnumForm, OutOfMemory>
 /// A struct of the items at the front of the lines.
 fn tuple_definition<'v>(
     alloc: Global,
-    scope: Scope<'_>,
+    scope: Scope<'_, '_>,
     lines: &[ShapeLine<'_>],
 ) -> Result<Def<'v>, OutOfMemory>
     requires { length scope.names.now ≤ 65535 }
@@ -82,7 +82,7 @@ fn tuple_definition<'v>(
 /// A struct of the fields at the front of the lines.
 fn struct_definition<'v>(
     alloc: Global,
-    scope: Scope<'_>,
+    scope: Scope<'_, '_>,
     deny: bool,
     default: bool,
     container: bool,
@@ -98,7 +98,7 @@ fn struct_definition<'v>(
 /// An enum of the variants up to the next shape.
 fn enum_definition<'v>(
     alloc: Global,
-    scope: Scope<'_>,
+    scope: Scope<'_, '_>,
     line: FormLine<'_>,
     lines: &[ShapeLine<'_>],
 ) -> Result<Def<'v>, OutOfMemory>
@@ -113,7 +113,7 @@ fn enum_definition<'v>(
 /// The shape of a line, with the lines behind it.
 fn definition<'v>(
     alloc: Global,
-    scope: Scope<'_>,
+    scope: Scope<'_, '_>,
     head: &Head<'_>,
     lines: &[ShapeLine<'_>],
 ) -> Result<Def<'v>, OutOfMemory>
@@ -151,7 +151,7 @@ fn definition<'v>(
 /// Defines each shape by its line and those behind it. The builder holds the scalars, and the names of the shapes.
 pub(crate) fn define_shapes(
     alloc: Global,
-    scope: Scope<'_>,
+    scope: Scope<'_, '_>,
     lines: &[ShapeLine<'_>],
     builder: &mut DraftsBuilder,
 ) -> Result<(), OutOfMemory>

@@ -69,7 +69,7 @@ fn some_value<'v>(
 /// The field of a line.
 fn field<'v>(
     alloc: Global,
-    scope: Scope<'_>,
+    scope: Scope<'_, '_>,
     line: &FieldLine<'_>,
 ) -> Result<Field<'v>, OutOfMemory>
     requires { length scope.names.now ≤ 65535 }
@@ -104,7 +104,7 @@ fn place_name(alloc: Global, at: usize) -> Result<Name, OutOfMemory>
 /// An item, whose name is its place.
 fn item<'v>(
     alloc: Global,
-    scope: Scope<'_>,
+    scope: Scope<'_, '_>,
     at: usize,
     shape: &str,
 ) -> Result<Field<'v>, OutOfMemory>
@@ -128,7 +128,7 @@ fn item<'v>(
 /// The item or the field that a line describes, where it describes one.
 fn member<'v>(
     alloc: Global,
-    scope: Scope<'_>,
+    scope: Scope<'_, '_>,
     at: usize,
     line: &ShapeLine<'_>,
 ) -> Result<Option<Field<'v>>, OutOfMemory>
@@ -145,7 +145,7 @@ fn member<'v>(
 /// The items and fields at the front of the lines.
 pub(crate) fn members<'v>(
     alloc: Global,
-    scope: Scope<'_>,
+    scope: Scope<'_, '_>,
     lines: &[ShapeLine<'_>],
 ) -> Result<Items<Field<'v>>, OutOfMemory>
     requires { length scope.names.now ≤ 65535 }
@@ -175,7 +175,7 @@ fn kind_of(body: Body) -> StructKind
 /// The variant of a line, with the fields behind it.
 fn variant<'v>(
     alloc: Global,
-    scope: Scope<'_>,
+    scope: Scope<'_, '_>,
     line: &VariantLine<'_>,
     lines: &[ShapeLine<'_>],
 ) -> Result<Variant<'v>, OutOfMemory>
@@ -198,7 +198,7 @@ fn variant<'v>(
 /// The variants up to the next shape, each with the fields behind it.
 pub(crate) fn variants<'v>(
     alloc: Global,
-    scope: Scope<'_>,
+    scope: Scope<'_, '_>,
     lines: &[ShapeLine<'_>],
 ) -> Result<Items<Variant<'v>>, OutOfMemory>
     requires { length scope.names.now ≤ 65535 }

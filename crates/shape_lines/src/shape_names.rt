@@ -2,22 +2,23 @@
 ghost use Rattle.std.specs.Prelude.{◌≡◌, ◌≤◌, map, length, IfOk, IfErr, OnOk, IsTrue};
 ghost use Rattle.std.specs.List.{list_all};
 ghost use Rattle.semantics_lines.specs.ShapeLines.{head_references};
-ghost use Rattle.semantics_lines.specs.ShapeText.{all_names, number_of, is_there, is_known, number_in, is_map_at};
+ghost use Rattle.semantics_lines.specs.ShapeText.{all_names, is_there, is_known, number_in, is_map_at};
 ghost use Rattle.shape_lines.specs.ShapeLines.{shape_line, head_view, texts, scalar_texts};
 ghost use Rattle.shape_lines.specs.ShapeScopes.{scope_view, all_maps, scalar_maps, IsReferenceFault};
 
 use crate::shape_fault::{ReadShapesError, ShapeTextKind, fault};
 use crate::shape_line::{Head, ShapeLine};
+use crate::shape_numbers::Names;
 use shape_types::{Items, OutOfMemory, ScalarType, ShapeId};
 use std::alloc::Global;
 
 /// What is known of all shapes, by their numbers.
 #[derive(Clone, Copy)]
-pub(crate) struct Scope<'a> {
+pub(crate) struct Scope<'s, 'a> {
     /// Their names.
-    pub names: &'a [&'a str],
+    pub names: &'s Names<'a>,
     /// For each, whether it is a map.
-    pub maps: &'a [bool],
+    pub maps: &'s [bool],
 }
 
 /// The names of the scalars, in the order of their numbers.
@@ -32,10 +33,7 @@ fn scalar_names<'a>(alloc: Global) -> Result<Items<&'a str>, OutOfMemory>
 }
 
 /// The names of all shapes by their numbers, those of the scalars first.
-pub(crate) fn all_names<'a>(
-    alloc: Global,
-    lines: &[ShapeLine<'a>],
-) -> Result<Items<&'a str>, OutOfMemory>
+fn listed_names<'a>(alloc: Global, lines: &[ShapeLine<'a>]) -> Result<Items<&'a str>, OutOfMemory>
     ensures { IfOk result (λ names. texts names ≡ all_names (map shape_line lines.now)) }
 {
     let mut names = scalar_names(alloc)?;
@@ -45,6 +43,17 @@ pub(crate) fn all_names<'a>(
         }
     }
     Ok(names)
+}
+
+/// The names of all shapes, with the table by which they are found.
+pub(crate) fn all_names<'a>(
+    alloc: Global,
+    lines: &[ShapeLine<'a>],
+) -> Result<Names<'a>, OutOfMemory>
+    ensures { IfOk result (λ names. names ≡ all_names (map shape_line lines.now)) }
+{
+    let names = listed_names(alloc, lines)?;
+    Names::new(alloc, names)
 }
 
 /// For each of the seventeen scalars, that it is no map.
@@ -68,23 +77,16 @@ pub(crate) fn all_maps(alloc: Global, lines: &[ShapeLine<'_>]) -> Result<Items<b
     Ok(maps)
 }
 
-/// The number of the first shape of this name.
-fn number_of(names: &[&str], name: &str) -> Option<usize>
-    ensures { result ≡ number_of (texts names.now) name.now }
-{
-    names.iter().position(|other| *other == name)
-}
-
 /// Whether there is a shape of this name.
-fn is_there(names: &[&str], name: &str) -> bool
-    ensures { result ≡ is_there (texts names.now) name.now }
+fn is_there(names: &Names<'_>, name: &str) -> bool
+    ensures { result ≡ is_there names.now name.now }
 {
-    number_of(names, name).is_some()
+    names.number_of(name).is_some()
 }
 
 /// Whether the shapes are there over which a shape stands.
-fn head_is_known(names: &[&str], head: &Head<'_>) -> bool
-    ensures { result ≡ list_all (is_there (texts names.now)) (head_references (head_view head.now)) }
+fn head_is_known(names: &Names<'_>, head: &Head<'_>) -> bool
+    ensures { result ≡ list_all (is_there names.now) (head_references (head_view head.now)) }
 {
     match head {
         Head::Option(shape) => is_there(names, shape),
@@ -99,8 +101,8 @@ fn head_is_known(names: &[&str], head: &Head<'_>) -> bool
 }
 
 /// Whether the shapes are there to which a line refers.
-fn is_known(names: &[&str], line: &ShapeLine<'_>) -> bool
-    ensures { result ≡ is_known (texts names.now) (shape_line line.now) }
+fn is_known(names: &Names<'_>, line: &ShapeLine<'_>) -> bool
+    ensures { result ≡ is_known names.now (shape_line line.now) }
 {
     match line {
         ShapeLine::Head { head, .. } => head_is_known(names, head),
@@ -112,11 +114,11 @@ fn is_known(names: &[&str], line: &ShapeLine<'_>) -> bool
 
 /// Sees that each shape is there to which a line refers.
 pub(crate) fn check_references(
-    names: &[&str],
+    names: &Names<'_>,
     lines: &[ShapeLine<'_>],
 ) -> Result<(), ReadShapesError>
-    ensures known { OnOk result (IsTrue (list_all (is_known (texts names.now)) (map shape_line lines.now))) }
-    ensures refused { IfErr result (λ error. IsReferenceFault (texts names.now) (map shape_line lines.now) error) }
+    ensures known { OnOk result (IsTrue (list_all (is_known names.now) (map shape_line lines.now))) }
+    ensures refused { IfErr result (λ error. IsReferenceFault names.now (map shape_line lines.now) error) }
 {
     'lines: for (at, line) in lines.iter().enumerate() {
         if !is_known(names, line) {
@@ -127,16 +129,16 @@ pub(crate) fn check_references(
 }
 
 /// The number of the first shape of this name, and 0 where there is none.
-pub(crate) fn number_in(scope: Scope<'_>, name: &str) -> ShapeId
+pub(crate) fn number_in(scope: Scope<'_, '_>, name: &str) -> ShapeId
     requires { length scope.names.now ≤ 65535 }
     ensures { result.0 ≡ number_in (scope_view scope.entry) name.now }
 {
-    let at = number_of(scope.names, name).unwrap_or(0);
+    let at = scope.names.number_of(name).unwrap_or(0);
     ShapeId(at as u32)
 }
 
 /// Whether the shape of this number is a map.
-pub(crate) fn is_map_at(scope: Scope<'_>, number: ShapeId) -> bool
+pub(crate) fn is_map_at(scope: Scope<'_, '_>, number: ShapeId) -> bool
     ensures { result ≡ is_map_at (scope_view scope.entry) number.0 }
 {
     match scope.maps.get(number.0 as usize) {
