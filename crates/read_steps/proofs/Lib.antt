@@ -1,6 +1,6 @@
 pub mod Telling
 pub mod Stands
-pub mod Pushes
+pub mod Tops
 pub mod FieldsSeen
 pub mod Keys
 pub mod Places

@@ -17,13 +17,17 @@ use Rattle.laws_machine.specs.Delivery.{here}
 use Rattle.laws_machine.specs.Begins.{await}
 use Rattle.laws_machine.specs.Steps.{entered, plan_in, end_step, lead_step, field_step, step_at}
 use Rattle.read_steps.specs.declared.frames.StructPart.{StructPart}
+use Rattle.read_steps.specs.declared.frames.Frame.{Frame}
+use Rattle.read_steps.specs.declared.kind.FrameKind.TheVariants as kind
 use Rattle.read_steps.specs.Fits.{mark_of}
 use Rattle.read_steps.specs.Keys.{place_in}
 use Rattle.read_steps.specs.Stepping.{fresh_step, place_step, found_step, marked_step}
 use Rattle.read_steps.specs.Tasks.{fields_at}
-use Rattle.read_steps.specs.Views.{struct_of}
+use Rattle.read_steps.specs.Kinds.{kind_of}
+use Rattle.read_steps.specs.Views.{struct_of, with_frame}
 use Rattle.read_steps.proofs.Awaits.{await_source}
 use Rattle.read_steps.proofs.BuiltFields.{none_denies}
+use Rattle.read_steps.proofs.Tops.{object_top}
 use Rattle.read_steps.proofs.Places.{alone, taken_some, place_called, own_field, leads_place, own_end}
 
 allowed : (b deny : Bool) → deny ≡ false → (b || not deny) ≡ true
@@ -68,14 +72,17 @@ module _ (t : Terms) (p : StructPart) (fs : Frames) (x : Phrase) (m : Option Met
       ∙ ap (λ o. lead_step o t s q fs) (leads_place t.setting.registry fields x.bytes)
       ∙ by_place (place_in fields x.bytes) refl
 
--- one event of a struct
-pub object_steps : (t : Terms) → IsRegistry t.setting.registry → (p : StructPart) (fs : Frames) (before : Span) (e : Event)
-    → step_at t (object (struct_of t p) ∷ fs) before e ≡ marked_step (mark_of e) t (struct_of t p) fs (span_of e)
-object_steps t checked p fs before (leaf (key (named x m n))) = named_is t p fs x m n checked
-object_steps t checked p fs before (leaf (key (nameless m n))) = refl
-object_steps t checked p fs before (leaf (key (ordered n))) = refl
-object_steps t checked p fs before (leaf (scalar x n)) = refl
-object_steps t checked p fs before (leaf (tag v n)) = refl
-object_steps t checked p fs before (start b k n) = refl
-object_steps t checked p fs before (stop of_struct n) = refl
-object_steps t checked p fs before (stop of_sequence n) = refl
+module _ (t : Terms) (checked : IsRegistry t.setting.registry) (before : Span) where
+  object_steps : (p : StructPart) (fs : Frames) (e : Event) → step_at t (object (struct_of t p) ∷ fs) before e ≡ marked_step (mark_of e) t (object (struct_of t p) ∷ fs) (span_of e)
+  object_steps p fs (leaf (key (named x m n))) = named_is t p fs x m n checked
+  object_steps p fs (leaf (key (nameless m n))) = refl
+  object_steps p fs (leaf (key (ordered n))) = refl
+  object_steps p fs (leaf (scalar x n)) = refl
+  object_steps p fs (leaf (tag v n)) = refl
+  object_steps p fs (start b k n) = refl
+  object_steps p fs (stop of_struct n) = refl
+  object_steps p fs (stop of_sequence n) = refl
+
+  -- one event of the struct that is innermost
+  pub object_at : (f : Frame) (fs : Frames) (e : Event) → kind_of f ≡ kind.Object → step_at t (with_frame t f fs) before e ≡ marked_step (mark_of e) t (with_frame t f fs) (span_of e)
+  object_at f fs e is = let (p, same) = object_top t fs f is in rw same (object_steps p fs e)

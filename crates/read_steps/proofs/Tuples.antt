@@ -12,25 +12,34 @@ use Rattle.laws_reading.specs.Input.{◌>>=◌}
 use Rattle.laws_reading.specs.Tuples.{filled_from}
 use Rattle.laws_reading.specs.Tuples as tuples
 use Rattle.laws_reading.specs.Values.{Terms}
-use Rattle.laws_machine.specs.Frames.{TuplePart, Frames}
+use Rattle.laws_machine.specs.Frames.{TuplePart, keyed, Frames}
 use Rattle.laws_machine.specs.Delivery.{here}
-use Rattle.laws_machine.specs.Steps.{keyed_step}
+use Rattle.laws_machine.specs.Steps.{keyed_step, step_at}
 use Rattle.shape_types.specs.Trees.{tree_of}
 use Rattle.shape_types.specs.declared.value.Value.{Value}
 use Rattle.read_steps.specs.Fits.{goes_on_by}
 use Rattle.read_steps.specs.Filling.{or_missing, absent_value, filled_at}
 use Rattle.read_steps.specs.Stepping.{keyed_by}
 use Rattle.read_steps.specs.Stops.{Fails}
+use Rattle.read_steps.specs.Kinds.{kind_of}
 use Rattle.read_steps.specs.Tasks.{fields_at}
+use Rattle.read_steps.specs.Views.{tuple_of, with_frame}
+use Rattle.read_steps.specs.declared.frames.Frame.{Frame}
+use Rattle.read_steps.specs.declared.kind.FrameKind.TheVariants as kind
+use Rattle.read_steps.proofs.Tops.{keyed_top}
 use Rattle.read_steps.proofs.BuiltFields.{built_at}
 
-pub keyed_is : (t : Terms) (l : TuplePart) (fs : Frames) (e : Event) → keyed_step e t l fs ≡ keyed_by (goes_on_by e) t l fs (span_of e)
+keyed_is : (t : Terms) (l : TuplePart) (fs : Frames) (e : Event) → keyed_step e t l fs ≡ keyed_by (goes_on_by e) t (keyed l ∷ fs) (span_of e)
 keyed_is t l fs (leaf (scalar x n)) = refl
 keyed_is t l fs (leaf (key q)) = refl
 keyed_is t l fs (leaf (tag v n)) = refl
 keyed_is t l fs (start b k n) = refl
 keyed_is t l fs (stop of_struct n) = refl
 keyed_is t l fs (stop of_sequence n) = refl
+
+-- one event of the tuple that is innermost, and stands as an object
+pub keyed_at : (t : Terms) (f : Frame) (fs : Frames) (before : Span) (e : Event) → kind_of f ≡ kind.Keyed → step_at t (with_frame t f fs) before e ≡ keyed_by (goes_on_by e) t (with_frame t f fs) (span_of e)
+keyed_at t f fs before e is = let (p, same) = keyed_top t fs f is in rw same (keyed_is t (tuple_of t p) fs e)
 
 -- a list from a place on
 cut : (fields : List Field) (k : ℕ) (f : Field) → slice_get fields k ≡ Some f → drop k fields ≡ f ∷ drop (suc k) fields

@@ -12,8 +12,8 @@ use Rattle.laws_reading.specs.Structs.{taken_span}
 use Rattle.laws_reading.specs.Nodes.{Target, set_at, bare_node}
 use Rattle.laws_reading.specs.Sequences.{items_end}
 use Rattle.laws_reading.specs.Values.{Terms}
-use Rattle.laws_machine.specs.Frames.{ItemsPart, TuplePart, StructPart, Entered, NodePart, elements, keyed, object, field, node, argument, passing, Frames, path}
-use Rattle.laws_machine.specs.Delivery.{going, Steps, here, deliver, handed}
+use Rattle.laws_machine.specs.Frames.{ItemsPart, TuplePart, StructPart, Entered, NodePart, elements, keyed, keyed_item, object, field, node, argument, passing, Frames, path}
+use Rattle.laws_machine.specs.Delivery.{going, Steps, here, no_step, with_argument, deliver, handed}
 use Rattle.laws_machine.specs.Begins.{await}
 use Rattle.laws_machine.specs.Steps.{keyed_in, tuple_step, struct_end, set_in}
 use Rattle.read_steps.specs.Fits.{TupleForm, as_sequence, as_object, as_nothing, Begun, as_scalar, as_node, as_other, Mark, at_end, at_name, at_nameless, elsewhere}
@@ -47,11 +47,17 @@ tuple_begun (Some as_sequence) t l fs span = Ok (going (elements l ∷ fs))
 tuple_begun (Some as_object) t l fs span = Ok (going (keyed l ∷ fs))
 tuple_begun (Some as_nothing) t l fs span = deliver fs (structure (trees_of []))
 
--- a key of a tuple, or its end
-abbrev pub keyed_by : Option Bool → Terms → TuplePart → Frames → Span → Steps
-keyed_by None t l fs span = unexpected (path t fs) (here span)
-keyed_by (Some true) t l fs span = keyed_in (slice_get l.elements.fields (length l.front)) t l fs span
-keyed_by (Some false) t l fs span = tuple_step t l fs span
+-- a key of the tuple that is innermost, or its end
+abbrev pub keyed_by : Option Bool → Terms → Frames → Span → Steps
+keyed_by None t fs span = unexpected (path t fs) (here span)
+keyed_by (Some true) t (keyed l ∷ fs) span = keyed_in (slice_get l.elements.fields (length l.front)) t l fs span
+keyed_by (Some false) t (keyed l ∷ fs) span = tuple_step t l fs span
+keyed_by _ t fs span = no_step
+
+-- that tuple after the key
+abbrev pub key_taken : Frames → Frames
+key_taken (keyed l ∷ fs) = keyed_item l ∷ fs
+key_taken fs = fs
 
 -- the key of a field, unless the field was read already
 abbrev pub fresh_step : Option Span → Field → Terms → StructPart → Entered → Frames → Steps
@@ -67,12 +73,28 @@ abbrev pub found_step : Option ℕ → Terms → StructPart → Phrase → Frame
 found_step None t s name fs span = Ok (going (passing [] ∷ object s ∷ fs))
 found_step (Some k) t s name fs span = place_step (slice_get s.layout.fields k) t s (record { path = k ∷ []; name = name; span = span }) fs
 
--- an entry of a struct, or its end
-abbrev pub marked_step : Mark → Terms → StructPart → Frames → Span → Steps
-marked_step at_end t s fs span = struct_end t s fs span >>= deliver fs
-marked_step (at_name name) t s fs span = found_step (place_in s.layout.fields name.bytes) t s name fs span
-marked_step at_nameless t s fs span = Ok (going (passing [] ∷ object s ∷ fs))
-marked_step elsewhere t s fs span = unexpected (path t fs) (here span)
+-- the key of a field of the struct that is innermost
+abbrev pub field_by : Option Field → Terms → Entered → Frames → Steps
+field_by o t e (object s ∷ fs) = place_step o t s e fs
+field_by o t e fs = no_step
+
+-- that struct after the key
+abbrev pub field_entered : Entered → Frames → Frames
+field_entered e (object s ∷ fs) = field s e ∷ fs
+field_entered e fs = fs
+
+-- the same, by the place of the field
+abbrev pub entered_by : ℕ → Terms → Entered → Frames → Steps
+entered_by k t e (object s ∷ fs) = place_step (slice_get s.layout.fields k) t s e fs
+entered_by k t e fs = no_step
+
+-- an entry of the struct that is innermost, or its end
+abbrev pub marked_step : Mark → Terms → Frames → Span → Steps
+marked_step at_nameless t fs span = Ok (going (passing [] ∷ fs))
+marked_step elsewhere t fs span = unexpected (path t fs) (here span)
+marked_step at_end t (object s ∷ fs) span = struct_end t s fs span >>= deliver fs
+marked_step (at_name name) t (object s ∷ fs) span = found_step (place_in s.layout.fields name.bytes) t s name fs span
+marked_step _ t fs span = no_step
 
 -- the key of the argument of a node, which comes once
 abbrev pub argument_by : Option Span → Terms → NodePart → Frames → Span → Steps
@@ -88,14 +110,25 @@ node_ended (Some v) t fs span = deliver fs v
 abbrev pub named_entry : List ℕ → Terms → NodePart → Frames → Span → Steps
 named_entry name t p fs span = cond (bytes_eq name (codes "_arg")) (argument_by p.node.first t p fs span) (Ok (going (passing [] ∷ node p ∷ fs)))
 
--- an entry of a node, or its end
-abbrev pub node_marked : Mark → Terms → NodePart → Frames → Span → Steps
-node_marked at_end t p fs span = node_ended p.node.value t fs span
-node_marked (at_name name) t p fs span = named_entry name.bytes t p fs span
-node_marked at_nameless t p fs span = Ok (going (passing [] ∷ node p ∷ fs))
-node_marked elsewhere t p fs span = unexpected (path t fs) (here span)
+-- the key of the argument of the node that is innermost
+abbrev pub argument_in : Terms → Frames → Span → Steps
+argument_in t (node p ∷ fs) span = argument_by p.node.first t p fs span
+argument_in t fs span = no_step
 
--- the argument of a node, which is a scalar
-abbrev pub set_begun : Begun → Terms → NodePart → Span → Frames → Span → Steps
-set_begun (as_scalar x) t p first fs span = set_at p.target x (path t fs) (here span) >>= set_in p first fs
-set_begun _ t p first fs span = unexpected (path t fs) (here span)
+-- an entry of the node that is innermost, or its end
+abbrev pub node_marked : Mark → Terms → Frames → Span → Steps
+node_marked at_nameless t fs span = Ok (going (passing [] ∷ fs))
+node_marked elsewhere t fs span = unexpected (path t fs) (here span)
+node_marked at_end t (node p ∷ fs) span = node_ended p.node.value t fs span
+node_marked (at_name name) t (node p ∷ fs) span = named_entry name.bytes t p fs span
+node_marked _ t fs span = no_step
+
+-- the argument of the node that is innermost, which is a scalar
+abbrev pub set_begun : Begun → Terms → Frames → Span → Steps
+set_begun (as_scalar x) t (argument p first ∷ fs) span = set_at p.target x (path t fs) (here span) >>= set_in p first fs
+set_begun _ t fs span = unexpected (path t fs) (here span)
+
+-- that node with this argument
+abbrev pub argument_set : Option Tree → Frames → Frames
+argument_set v (argument p first ∷ fs) = node (with_argument p first v) ∷ fs
+argument_set v fs = fs

@@ -1,5 +1,6 @@
 -- What is open, as the definitions see it. Of a struct the frames keep the number of its shape: its fields are those of the registry.
-use Rattle.std.specs.Prelude.{ℕ, false, List, [], ◌∷◌, map, reverse, option_map}
+use Rattle.std.specs.Prelude.{ℕ, Bool, true, false, cond, List, [], ◌∷◌, map, reverse, Option, Some, None, option_map}
+use Rattle.semantics_lines.specs.Events.{Span}
 use Rattle.semantics.specs.Labels.{label_at}
 use Rattle.semantics.specs.Places.{At}
 use Rattle.shape_types.specs.Scalars.{scalar_type_of}
@@ -19,6 +20,8 @@ use Rattle.read_steps.specs.declared.frames.ItemsPart.{ItemsPart}
 use Rattle.read_steps.specs.declared.frames.TuplePart.{TuplePart}
 use Rattle.read_steps.specs.declared.frames.StructPart.{StructPart}
 use Rattle.read_steps.specs.declared.frames.ResultPart.{ResultPart}
+use Rattle.read_steps.specs.declared.frames.ArgumentKey.{ArgumentKey}
+use Rattle.read_steps.specs.declared.frames.ArgumentKey.TheVariants as argument_key
 use Rattle.read_steps.specs.declared.frames.NodePart.{NodePart}
 use Rattle.read_steps.specs.declared.frames.Frame.{Frame}
 use Rattle.read_steps.specs.declared.frames.Frame.TheVariants as frame
@@ -27,6 +30,8 @@ use Rattle.read_steps.specs.declared.frames.Next.TheVariants as next
 use Rattle.read_steps.specs.declared.frames.Moved.{Moved}
 use Rattle.read_steps.specs.declared.frames.Moved.TheVariants as moved
 use Rattle.read_steps.specs.declared.frames.Frames.{Frames}
+use Rattle.read_steps.specs.declared.stack.Stack.{Stack}
+use Rattle.read_steps.specs.declared.stack.Place.{Place}
 use Rattle.read_steps.specs.Passing.{opened_of}
 use Rattle.read_steps.specs.Tasks.{sides_view, fields_at, denies_at}
 
@@ -65,27 +70,50 @@ struct_of t p = record {
 abbrev pub result_of : ResultPart → machine.ResultPart
 result_of p = record { sides = sides_view p.sides; depth = p.depth }
 
+-- where the key of its argument stands, after that argument
+abbrev pub first_of : ArgumentKey → Option Span
+first_of (argument_key.Past first) = Some (span_view first)
+first_of _ = None
+
 -- what came of the node of a scalar so far
 abbrev pub node_of : Terms → NodePart → machine.NodePart
 node_of t p = record {
   target = target_of t p.shape.0 (scalar_type_of p.scalar);
-  node = record { first = option_map span_view p.first; value = option_map tree_of p.value };
+  node = record { first = first_of p.key; value = option_map tree_of p.value };
 }
 
--- what is open around what is read next
-abbrev pub frame_of : Terms → Frame → machine.Frame
-frame_of t frame.Option = option
-frame_of t (frame.Items p) = items (items_of t p)
-frame_of t (frame.Elements p) = elements (tuple_of t p)
-frame_of t (frame.Keyed p) = keyed (tuple_of t p)
-frame_of t (frame.KeyedItem p) = keyed_item (tuple_of t p)
-frame_of t (frame.Object p) = object (struct_of t p)
-frame_of t (frame.Field p k) = field (struct_of t p) (entered_of k)
-frame_of t (frame.ResultKey p) = outcome_key (result_of p)
-frame_of t (frame.ResultSide p ok) = outcome_side (result_of p) ok
-frame_of t (frame.ResultEnd ok v) = outcome_end ok (tree_of v)
-frame_of t (frame.Node p) = node (node_of t p)
-frame_of t (frame.Argument p first) = argument (node_of t p) (span_view first)
+-- a tuple that stands as an object, before a key or after it
+abbrev pub keyed_frame : machine.TuplePart → Bool → machine.Frame
+keyed_frame l false = keyed l
+keyed_frame l true = keyed_item l
+
+-- a struct before a key, or after this one
+abbrev pub object_frame : machine.StructPart → Option Named → machine.Frame
+object_frame s None = object s
+object_frame s (Some k) = field s (entered_of k)
+
+-- the node of a scalar before a key, or after that of its argument
+abbrev pub node_frame : machine.NodePart → ArgumentKey → machine.Frame
+node_frame p (argument_key.Open first) = argument p (span_view first)
+node_frame p _ = node p
+
+-- A frame, inside those around it. At the bottom nothing is open.
+abbrev pub with_frame : Terms → Frame → machine.Frames → machine.Frames
+with_frame t frame.Bottom fs = []
+with_frame t frame.Option fs = option ∷ fs
+with_frame t (frame.Items p) fs = items (items_of t p) ∷ fs
+with_frame t (frame.Elements p) fs = elements (tuple_of t p) ∷ fs
+with_frame t (frame.Keyed p) fs = keyed_frame (tuple_of t p) p.after_key ∷ fs
+with_frame t (frame.Object p) fs = object_frame (struct_of t p) p.key ∷ fs
+with_frame t (frame.ResultKey p) fs = outcome_key (result_of p) ∷ fs
+with_frame t (frame.ResultSide p ok) fs = outcome_side (result_of p) ok ∷ fs
+with_frame t (frame.ResultEnd ok v) fs = outcome_end ok (tree_of v) ∷ fs
+with_frame t (frame.Node p) fs = node_frame (node_of t p) p.key ∷ fs
+
+-- these frames, the innermost in front
+abbrev pub below_of : Terms → List Frame → machine.Frames
+below_of t [] = []
+below_of t (f ∷ fs) = with_frame t f (below_of t fs)
 
 -- a list or an array with no items yet
 abbrev pub items_begun : Terms → ShapeId → ItemsOf → ℕ → machine.ItemsPart
@@ -106,9 +134,17 @@ struct_begun_at t s n = record {
   got = nothing_got;
 }
 
+-- what is open around the innermost frame
+abbrev pub outer_of : Terms → Stack → machine.Frames
+outer_of t s = below_of t (reverse s.below.items)
+
 -- all that is open, the innermost in front
-abbrev pub open_of : Terms → List Frame → machine.Frames
-open_of t fs = map (frame_of t) (reverse fs)
+abbrev pub open_of : Terms → Stack → machine.Frames
+open_of t s = with_frame t s.top (outer_of t s)
+
+-- all of it, or what is around the innermost frame
+abbrev pub place_of : Terms → Place → machine.Frames
+place_of t p = cond p.inside (open_of t p.stack.now) (outer_of t p.stack.now)
 
 -- what comes next, in front of all that is open
 abbrev pub next_in : Next → machine.Frames → machine.Frames
@@ -123,4 +159,4 @@ moved_of (moved.Whole v) fs = delivery.complete (tree_of v)
 
 -- all of it
 abbrev pub frames_of : Terms → Frames → machine.Frames
-frames_of t f = next_in f.next (open_of t f.stack.items)
+frames_of t f = next_in f.next (open_of t f.stack)

@@ -13,8 +13,9 @@ ghost use Rattle.read_steps.specs.Stops.{told_stop, Gives, IsOwn};
 ghost use Rattle.read_steps.specs.Tasks.{terms_of};
 ghost use Rattle.read_steps.specs.Views.{frames_of, open_of, next_in, moved_of};
 
-use crate::frames::{Frame, Frames, Moved, Next};
+use crate::frames::{Frames, Moved, Next};
 use crate::refusal::too_deep;
+use crate::stack::Stack;
 use crate::stop::ReadStop;
 use crate::task::{Task, Wanted};
 use event_core::Span;
@@ -33,7 +34,7 @@ pub fn await_value<'de>(
     ensures exact { Gives told_stop (λ _. going (frames_of (terms_of task.now) frames.new)) result (await (terms_of task.now) depth shape.0 from_events [] (span_view last)) }
     ensures own { IfErr result (λ e. IsOwn (told_stop e)) }
 {
-    match await_shape(task, frames.stack.as_slice(), shape, depth, last) {
+    match await_shape(task, &frames.stack, shape, depth, last) {
         Ok(next) => {
             frames.next = next;
             Ok(())
@@ -45,7 +46,7 @@ pub fn await_value<'de>(
 /// A part of what is open has to come.
 pub fn await_next<'de>(
     task: &Task<'_, '_>,
-    stack: &[Frame<'_>],
+    stack: &Stack<'_>,
     shape: ShapeId,
     depth: usize,
     last: Span,
@@ -62,7 +63,7 @@ pub fn await_next<'de>(
 /// What comes next, where that is a value of the shape: transparent shapes are those inside them.
 fn await_shape<'de>(
     task: &Task<'_, '_>,
-    stack: &[Frame<'_>],
+    stack: &Stack<'_>,
     shape: ShapeId,
     depth: usize,
     last: Span,
@@ -108,7 +109,7 @@ fn same(shapes: &Shapes, shape: ShapeId) -> Option<ShapeId>
 #[tactic(auto, using(crate::proofs::Awaits::await_deep, crate::proofs::Awaits::await_is))]
 fn await_here<'de>(
     task: &Task<'_, '_>,
-    stack: &[Frame<'_>],
+    stack: &Stack<'_>,
     wanted: Wanted,
     last: Span,
 ) -> Result<Next, ReadStop<'de>>

@@ -29,10 +29,11 @@ use crate::fits::{
     Begun, TupleForm, begin_of, fit_sequence_start, fit_struct_start, fit_tuple, is_nothing_event,
 };
 use crate::frames::{
-    Frame, ItemsPart, Moved, Next, NodePart, ResultPart, StructPart, TuplePart, open_frame,
+    ArgumentKey, Frame, ItemsPart, Moved, Next, NodePart, ResultPart, StructPart, TuplePart,
 };
 use crate::refusal::{too_deep, unexpected};
 use crate::scalar::set_value;
+use crate::stack::Stack;
 use crate::stop::ReadStop;
 use crate::task::{ItemsOf, Sides, Task, Wanted};
 use event_core::{ParseEvent, ScalarValue, Span};
@@ -41,17 +42,17 @@ use shape_core::{Def, Items, ScalarType, ShapeId, StructKind, Value};
 /// Begins a part of this depth, behind what stood before the event.
 pub fn begin_part<'de>(
     task: &Task<'_, '_>,
-    stack: &mut Vec<Frame<'de>>,
+    stack: &mut Stack<'de>,
     shape: ShapeId,
     depth: usize,
     before: Span,
     event: &mut ParseEvent<'de>,
 ) -> Result<Moved<'de>, ReadStop<'de>>
-    ensures exact { Gives told_stop (λ m. moved_of m (open_of (terms_of task.now) stack.new.items)) result (begin (terms_of task.now) depth shape.0 from_events (open_of (terms_of task.now) stack.old.items) (span_view before) (event_of event.old)) }
+    ensures exact { Gives told_stop (λ m. moved_of m (open_of (terms_of task.now) stack.new)) result (begin (terms_of task.now) depth shape.0 from_events (open_of (terms_of task.now) stack.old) (span_view before) (event_of event.old)) }
     ensures own { IfErr result (λ e. IsOwn (told_stop e)) }
 {
     if depth == 0 {
-        return Err(too_deep(task, stack.as_slice(), before));
+        return Err(too_deep(task, stack, before));
     }
     begin(task, stack, shape, depth - 1, before, event)
 }
@@ -59,13 +60,13 @@ pub fn begin_part<'de>(
 /// Begins a value whose parts have this depth.
 pub fn begin<'de>(
     task: &Task<'_, '_>,
-    stack: &mut Vec<Frame<'de>>,
+    stack: &mut Stack<'de>,
     shape: ShapeId,
     depth: usize,
     before: Span,
     event: &mut ParseEvent<'de>,
 ) -> Result<Moved<'de>, ReadStop<'de>>
-    ensures exact { Gives told_stop (λ m. moved_of m (open_of (terms_of task.now) stack.new.items)) result (begin (terms_of task.now) (suc depth) shape.0 from_events (open_of (terms_of task.now) stack.old.items) (span_view before) (event_of event.old)) }
+    ensures exact { Gives told_stop (λ m. moved_of m (open_of (terms_of task.now) stack.new)) result (begin (terms_of task.now) (suc depth) shape.0 from_events (open_of (terms_of task.now) stack.old) (span_view before) (event_of event.old)) }
     ensures own { IfErr result (λ e. IsOwn (told_stop e)) }
 {
     let mut wanted = Wanted { shape, depth };
@@ -77,12 +78,12 @@ pub fn begin<'de>(
 #[tactic(auto, using(crate::proofs::Begins::descend_option, crate::proofs::Begins::descend_transparent, crate::proofs::Begins::option_too_deep, crate::proofs::Begins::transparent_too_deep))]
 fn descend<'de>(
     task: &Task<'_, '_>,
-    stack: &mut Vec<Frame<'de>>,
+    stack: &mut Stack<'de>,
     wanted: &mut Wanted,
     before: Span,
     event: &ParseEvent<'de>,
 ) -> Result<bool, ReadStop<'de>>
-    ensures goes { Goes told_stop result (begin (terms_of task.now) (suc wanted.new.depth) wanted.new.shape.0 from_events (open_of (terms_of task.now) stack.new.items) (span_view before) (event_of event.now)) (begin (terms_of task.now) (suc wanted.old.depth) wanted.old.shape.0 from_events (open_of (terms_of task.now) stack.old.items) (span_view before) (event_of event.now)) }
+    ensures goes { Goes told_stop result (begin (terms_of task.now) (suc wanted.new.depth) wanted.new.shape.0 from_events (open_of (terms_of task.now) stack.new) (span_view before) (event_of event.now)) (begin (terms_of task.now) (suc wanted.old.depth) wanted.old.shape.0 from_events (open_of (terms_of task.now) stack.old) (span_view before) (event_of event.now)) }
     ensures last { IfOk result (λ more. more ≡ false → inner_in (definition_at (registry task.now.shapes.now) wanted.new.shape.0) (event_of event.now) ≡ None) }
     ensures fewer { IfOk result (λ more. more ≡ true → wanted.new.depth < wanted.old.depth) }
     ensures own { IfErr result (λ e. IsOwn (told_stop e)) }
@@ -93,16 +94,16 @@ fn descend<'de>(
                 return Ok(false);
             }
             if wanted.depth == 0 {
-                return Err(too_deep(task, stack.as_slice(), before));
+                return Err(too_deep(task, stack, before));
             }
-            open_frame(stack, Frame::Option)?;
+            stack.open(Frame::Option)?;
             wanted.shape = *part;
             wanted.depth -= 1;
             Ok(true)
         }
         Some(Def::Transparent(part)) => {
             if wanted.depth == 0 {
-                return Err(too_deep(task, stack.as_slice(), before));
+                return Err(too_deep(task, stack, before));
             }
             wanted.shape = *part;
             wanted.depth -= 1;
@@ -116,13 +117,13 @@ fn descend<'de>(
 #[tactic(auto, using(crate::proofs::Begins::nothing_begins, crate::proofs::Begins::transparent_never, crate::proofs::Begins::tuple_is, crate::proofs::Begins::struct_is))]
 fn begin_here<'de>(
     task: &Task<'_, '_>,
-    stack: &mut Vec<Frame<'de>>,
+    stack: &mut Stack<'de>,
     wanted: Wanted,
     before: Span,
     event: &mut ParseEvent<'de>,
 ) -> Result<Moved<'de>, ReadStop<'de>>
     requires { inner_in (definition_at (registry task.now.shapes.now) wanted.shape.0) (event_of event.old) ≡ None }
-    ensures exact { Gives told_stop (λ m. moved_of m (open_of (terms_of task.now) stack.new.items)) result (begin (terms_of task.now) (suc wanted.depth) wanted.shape.0 from_events (open_of (terms_of task.now) stack.old.items) (span_view before) (event_of event.old)) }
+    ensures exact { Gives told_stop (λ m. moved_of m (open_of (terms_of task.now) stack.new)) result (begin (terms_of task.now) (suc wanted.depth) wanted.shape.0 from_events (open_of (terms_of task.now) stack.old) (span_view before) (event_of event.old)) }
     ensures own { IfErr result (λ e. IsOwn (told_stop e)) }
 {
     match task.shapes.definition_at(wanted.shape) {
@@ -154,16 +155,16 @@ fn begin_here<'de>(
             StructKind::Tuple | StructKind::TupleStruct => begin_tuple(task, stack, wanted, event),
             StructKind::Unit | StructKind::Struct => begin_struct(task, stack, wanted, event),
         },
-        Some(Def::Transparent(_)) => { Err(too_deep(task, stack.as_slice(), before)) }
-        Some(Def::Set(_)) => Err(unread(task, stack.as_slice(), event)),
-        Some(Def::Map { key: _, value: _ }) => Err(unread(task, stack.as_slice(), event)),
-        Some(Def::Enum(_)) => Err(unread(task, stack.as_slice(), event)),
-        None => Err(unread(task, stack.as_slice(), event)),
+        Some(Def::Transparent(_)) => { Err(too_deep(task, stack, before)) }
+        Some(Def::Set(_)) => Err(unread(task, stack, event)),
+        Some(Def::Map { key: _, value: _ }) => Err(unread(task, stack, event)),
+        Some(Def::Enum(_)) => Err(unread(task, stack, event)),
+        None => Err(unread(task, stack, event)),
     }
 }
 
 /// A shape that isn't read yet.
-fn unread<'e>(task: &Task<'_, '_>, stack: &[Frame<'_>], event: &ParseEvent<'_>) -> ReadStop<'e>
+fn unread<'e>(task: &Task<'_, '_>, stack: &Stack<'_>, event: &ParseEvent<'_>) -> ReadStop<'e>
     ensures own { IsOwn (told_stop result) }
     ensures is { IsFault (told_stop result) (fault_in (terms_of task.now) (open_of (terms_of task.now) stack.now) unexpected_token (span_of (event_of event.now))) }
 {
@@ -178,9 +179,9 @@ fn unread<'e>(task: &Task<'_, '_>, stack: &[Frame<'_>], event: &ParseEvent<'_>) 
 /// An option that holds nothing.
 fn begin_nothing<'de>(
     task: &Task<'_, '_>,
-    stack: &mut Vec<Frame<'de>>,
+    stack: &mut Stack<'de>,
 ) -> Result<Moved<'de>, ReadStop<'de>>
-    ensures exact { Gives told_stop (λ m. moved_of m (open_of (terms_of task.now) stack.new.items)) result (deliver (open_of (terms_of task.now) stack.old.items) none) }
+    ensures exact { Gives told_stop (λ m. moved_of m (open_of (terms_of task.now) stack.new)) result (deliver (open_of (terms_of task.now) stack.old) none) }
     ensures own { IfErr result (λ e. IsOwn (told_stop e)) }
 {
     deliver(task, stack, Value::None)
@@ -190,12 +191,12 @@ fn begin_nothing<'de>(
 #[tactic(auto, using(crate::proofs::Begins::scalar_begins))]
 fn begin_scalar<'de>(
     task: &Task<'_, '_>,
-    stack: &mut Vec<Frame<'de>>,
+    stack: &mut Stack<'de>,
     shape: ShapeId,
     scalar: ScalarType,
     event: &mut ParseEvent<'de>,
 ) -> Result<Moved<'de>, ReadStop<'de>>
-    ensures exact { Gives told_stop (λ m. moved_of m (open_of (terms_of task.now) stack.new.items)) result (begin_scalar (terms_of task.now) (target_of (terms_of task.now) shape.0 (scalar_type_of scalar)) (open_of (terms_of task.now) stack.old.items) (event_of event.old)) }
+    ensures exact { Gives told_stop (λ m. moved_of m (open_of (terms_of task.now) stack.new)) result (begin_scalar (terms_of task.now) (target_of (terms_of task.now) shape.0 (scalar_type_of scalar)) (open_of (terms_of task.now) stack.old) (event_of event.old)) }
     ensures own { IfErr result (λ e. IsOwn (told_stop e)) }
 {
     let span = event.span;
@@ -205,29 +206,29 @@ fn begin_scalar<'de>(
             let part = NodePart {
                 shape,
                 scalar,
-                first: None,
+                key: ArgumentKey::Absent,
                 value: None,
             };
-            open_frame(stack, Frame::Node(part))?;
+            stack.open(Frame::Node(part))?;
             Ok(Moved::To(Next::Inside))
         }
-        Begun::Other(unfit) => Err(unexpected(task, stack.as_slice(), unfit, span)),
+        Begun::Other(unfit) => Err(unexpected(task, stack, unfit, span)),
     }
 }
 
 /// A scalar that is set.
 fn begin_set<'de>(
     task: &Task<'_, '_>,
-    stack: &mut Vec<Frame<'de>>,
+    stack: &mut Stack<'de>,
     shape: ShapeId,
     scalar: ScalarType,
     value: ScalarValue<'de>,
     span: Span,
 ) -> Result<Moved<'de>, ReadStop<'de>>
-    ensures exact { Gives told_stop (λ m. moved_of m (open_of (terms_of task.now) stack.new.items)) result (scalar_begun (as_scalar (scalar_of value.entry)) (terms_of task.now) (target_of (terms_of task.now) shape.0 (scalar_type_of scalar)) (open_of (terms_of task.now) stack.old.items) (span_view span)) }
+    ensures exact { Gives told_stop (λ m. moved_of m (open_of (terms_of task.now) stack.new)) result (scalar_begun (as_scalar (scalar_of value.entry)) (terms_of task.now) (target_of (terms_of task.now) shape.0 (scalar_type_of scalar)) (open_of (terms_of task.now) stack.old) (span_view span)) }
     ensures own { IfErr result (λ e. IsOwn (told_stop e)) }
 {
-    match set_value(task, stack.as_slice(), shape, scalar, value, span) {
+    match set_value(task, stack, shape, scalar, value, span) {
         Ok(value) => deliver(task, stack, value),
         Err(stop) => Err(stop),
     }
@@ -237,20 +238,20 @@ fn begin_set<'de>(
 #[tactic(auto, using(crate::proofs::Begins::result_begins))]
 fn begin_result<'de>(
     task: &Task<'_, '_>,
-    stack: &mut Vec<Frame<'de>>,
+    stack: &mut Stack<'de>,
     part: ResultPart,
     event: &ParseEvent<'_>,
 ) -> Result<Moved<'de>, ReadStop<'de>>
-    ensures exact { Gives told_stop (λ m. moved_of m (open_of (terms_of task.now) stack.new.items)) result (begin_result (terms_of task.now) (result_of part) (open_of (terms_of task.now) stack.old.items) (event_of event.now)) }
+    ensures exact { Gives told_stop (λ m. moved_of m (open_of (terms_of task.now) stack.new)) result (begin_result (terms_of task.now) (result_of part) (open_of (terms_of task.now) stack.old) (event_of event.now)) }
     ensures own { IfErr result (λ e. IsOwn (told_stop e)) }
 {
     let span = event.span;
     match fit_struct_start(Expected::ResultVariantStart, event) {
         Ok(()) => {
-            open_frame(stack, Frame::ResultKey(part))?;
+            stack.open(Frame::ResultKey(part))?;
             Ok(Moved::To(Next::Inside))
         }
-        Err(unfit) => Err(unexpected(task, stack.as_slice(), unfit, span)),
+        Err(unfit) => Err(unexpected(task, stack, unfit, span)),
     }
 }
 
@@ -258,12 +259,12 @@ fn begin_result<'de>(
 #[tactic(auto, using(crate::proofs::Begins::items_begin))]
 fn begin_items<'de>(
     task: &Task<'_, '_>,
-    stack: &mut Vec<Frame<'de>>,
+    stack: &mut Stack<'de>,
     wanted: Wanted,
     of: ItemsOf,
     event: &ParseEvent<'_>,
 ) -> Result<Moved<'de>, ReadStop<'de>>
-    ensures exact { Gives told_stop (λ m. moved_of m (open_of (terms_of task.now) stack.new.items)) result (begin_items (terms_of task.now) (items_begun (terms_of task.now) wanted.shape of wanted.depth) (open_of (terms_of task.now) stack.old.items) (event_of event.now)) }
+    ensures exact { Gives told_stop (λ m. moved_of m (open_of (terms_of task.now) stack.new)) result (begin_items (terms_of task.now) (items_begun (terms_of task.now) wanted.shape of wanted.depth) (open_of (terms_of task.now) stack.old) (event_of event.now)) }
     ensures own { IfErr result (λ e. IsOwn (told_stop e)) }
 {
     let span = event.span;
@@ -275,10 +276,10 @@ fn begin_items<'de>(
                 depth: wanted.depth,
                 front: Vec::new(task.alloc),
             };
-            open_frame(stack, Frame::Items(part))?;
+            stack.open(Frame::Items(part))?;
             Ok(Moved::To(Next::Inside))
         }
-        Err(unfit) => Err(unexpected(task, stack.as_slice(), unfit, span)),
+        Err(unfit) => Err(unexpected(task, stack, unfit, span)),
     }
 }
 
@@ -293,25 +294,25 @@ fn items_expected(of: ItemsOf) -> Expected {
 #[tactic(auto, using(crate::proofs::Begins::tuple_begins))]
 fn begin_tuple<'de>(
     task: &Task<'_, '_>,
-    stack: &mut Vec<Frame<'de>>,
+    stack: &mut Stack<'de>,
     wanted: Wanted,
     event: &ParseEvent<'_>,
 ) -> Result<Moved<'de>, ReadStop<'de>>
-    ensures exact { Gives told_stop (λ m. moved_of m (open_of (terms_of task.now) stack.new.items)) result (begin_tuple (terms_of task.now) (tuple_begun_at (terms_of task.now) wanted.shape wanted.depth) (open_of (terms_of task.now) stack.old.items) (event_of event.now)) }
+    ensures exact { Gives told_stop (λ m. moved_of m (open_of (terms_of task.now) stack.new)) result (begin_tuple (terms_of task.now) (tuple_begun_at (terms_of task.now) wanted.shape wanted.depth) (open_of (terms_of task.now) stack.old) (event_of event.now)) }
     ensures own { IfErr result (λ e. IsOwn (told_stop e)) }
 {
     let span = event.span;
     match fit_tuple(has_no_fields(task, wanted.shape), event) {
         Ok(TupleForm::Sequence) => {
-            open_frame(stack, Frame::Elements(empty_tuple(task, wanted)))?;
+            stack.open(Frame::Elements(empty_tuple(task, wanted)))?;
             Ok(Moved::To(Next::Inside))
         }
         Ok(TupleForm::Object) => {
-            open_frame(stack, Frame::Keyed(empty_tuple(task, wanted)))?;
+            stack.open(Frame::Keyed(empty_tuple(task, wanted)))?;
             Ok(Moved::To(Next::Inside))
         }
         Ok(TupleForm::Nothing) => deliver(task, stack, Value::Struct(Items::new(task.alloc))),
-        Err(unfit) => Err(unexpected(task, stack.as_slice(), unfit, span)),
+        Err(unfit) => Err(unexpected(task, stack, unfit, span)),
     }
 }
 
@@ -326,12 +327,14 @@ fn has_no_fields(task: &Task<'_, '_>, shape: ShapeId) -> bool
 }
 
 fn empty_tuple<'de>(task: &Task<'_, '_>, wanted: Wanted) -> TuplePart<'de>
-    ensures { tuple_of (terms_of task.now) result ≡ tuple_begun_at (terms_of task.now) wanted.shape wanted.depth }
+    ensures begun { tuple_of (terms_of task.now) result ≡ tuple_begun_at (terms_of task.now) wanted.shape wanted.depth }
+    ensures before_key { result.after_key ≡ false }
 {
     TuplePart {
         shape: wanted.shape,
         depth: wanted.depth,
         front: Vec::new(task.alloc),
+        after_key: false,
     }
 }
 
@@ -339,11 +342,11 @@ fn empty_tuple<'de>(task: &Task<'_, '_>, wanted: Wanted) -> TuplePart<'de>
 #[tactic(auto, using(crate::proofs::Begins::object_begins))]
 fn begin_struct<'de>(
     task: &Task<'_, '_>,
-    stack: &mut Vec<Frame<'de>>,
+    stack: &mut Stack<'de>,
     wanted: Wanted,
     event: &ParseEvent<'_>,
 ) -> Result<Moved<'de>, ReadStop<'de>>
-    ensures exact { Gives told_stop (λ m. moved_of m (open_of (terms_of task.now) stack.new.items)) result (begin_object (terms_of task.now) (struct_begun_at (terms_of task.now) wanted.shape wanted.depth) (open_of (terms_of task.now) stack.old.items) (event_of event.now)) }
+    ensures exact { Gives told_stop (λ m. moved_of m (open_of (terms_of task.now) stack.new)) result (begin_object (terms_of task.now) (struct_begun_at (terms_of task.now) wanted.shape wanted.depth) (open_of (terms_of task.now) stack.old) (event_of event.now)) }
     ensures own { IfErr result (λ e. IsOwn (told_stop e)) }
 {
     let span = event.span;
@@ -353,10 +356,11 @@ fn begin_struct<'de>(
                 shape: wanted.shape,
                 depth: wanted.depth,
                 filled: Vec::new(task.alloc),
+                key: None,
             };
-            open_frame(stack, Frame::Object(part))?;
+            stack.open(Frame::Object(part))?;
             Ok(Moved::To(Next::Inside))
         }
-        Err(unfit) => Err(unexpected(task, stack.as_slice(), unfit, span)),
+        Err(unfit) => Err(unexpected(task, stack, unfit, span)),
     }
 }

@@ -1,32 +1,32 @@
 //! A whole value goes into what is open.
-ghost use Rattle.std.specs.Prelude.{◌≡◌, ◌<◌, ◌∷◌, length, true, false, OnOk, IfOk, IfErr, Some, None};
+ghost use Rattle.std.specs.Prelude.{◌≡◌, ◌<◌, ◌∷◌, length, true, false, OnOk, IfOk, IfErr, IsSome, None, Ok};
 ghost use Rattle.shape_types.specs.Trees.{tree_of};
-ghost use Rattle.laws_machine.specs.Delivery.{deliver};
-ghost use Rattle.laws_machine.specs.Frames.{option};
+ghost use Rattle.laws_reading.specs.Values.{Terms};
+ghost use Rattle.laws_machine.specs.Delivery.{deliver, going};
+ghost use Rattle.laws_machine.specs.Frames.{Frames, option};
 ghost use Rattle.read_steps.specs.Stops.{told_stop, Gives, IsOwn};
 ghost use Rattle.read_steps.specs.Tasks.{terms_of};
-ghost use Rattle.read_steps.specs.Views.{open_of, moved_of};
-ghost use Rattle.read_steps.specs.Kinds.{kind_at, tops_option};
+ghost use Rattle.read_steps.specs.Views.{open_of, moved_of, object_frame, struct_of};
+ghost use Rattle.read_steps.specs.Kinds.{is_option, kind_of};
 ghost use Rattle.read_steps.specs.declared.kind.FrameKind.TheVariants as kinds;
 
 use crate::filled::Filled;
-use crate::frames::{Frame, Moved, Next, open_frame};
-use crate::kind::{FrameKind, innermost};
-use crate::parts::{
-    take_elements, take_field, take_items, take_keyed_item, take_option, take_result_side,
-};
+use crate::frames::{Frame, Moved, Next, StructPart};
+use crate::kind::{FrameKind, kind_of};
+use crate::parts::close_option;
 use crate::refusal::no_step;
+use crate::stack::Stack;
 use crate::stop::ReadStop;
 use crate::task::Task;
-use shape_core::{Boxed, Value};
+use shape_core::{Boxed, OutOfMemory, Value};
 
 /// A whole value goes into what is open, or is all of it.
 pub fn deliver<'de>(
     task: &Task<'_, '_>,
-    stack: &mut Vec<Frame<'de>>,
+    stack: &mut Stack<'de>,
     value: Value<'de>,
 ) -> Result<Moved<'de>, ReadStop<'de>>
-    ensures exact { Gives told_stop (λ m. moved_of m (open_of (terms_of task.now) stack.new.items)) result (deliver (open_of (terms_of task.now) stack.old.items) (tree_of value.entry)) }
+    ensures exact { Gives told_stop (λ m. moved_of m (open_of (terms_of task.now) stack.new)) result (deliver (open_of (terms_of task.now) stack.old) (tree_of value.entry)) }
     ensures own { IfErr result (λ e. IsOwn (told_stop e)) }
 {
     let mut value = value;
@@ -37,15 +37,15 @@ pub fn deliver<'de>(
 /// Closes an option round the value, and answers whether one was open.
 fn lift<'de>(
     task: &Task<'_, '_>,
-    stack: &mut Vec<Frame<'de>>,
+    stack: &mut Stack<'de>,
     value: &mut Value<'de>,
 ) -> Result<bool, ReadStop<'de>>
-    ensures same { OnOk result (deliver (open_of (terms_of task.now) stack.new.items) (tree_of value.new) ≡ deliver (open_of (terms_of task.now) stack.old.items) (tree_of value.old)) }
-    ensures last { IfOk result (λ more. more ≡ false → tops_option (kind_at stack.new.items) ≡ false) }
-    ensures fewer { IfOk result (λ more. more ≡ true → length (open_of (terms_of task.now) stack.new.items) < length (open_of (terms_of task.now) stack.old.items)) }
+    ensures same { OnOk result (deliver (open_of (terms_of task.now) stack.new) (tree_of value.new) ≡ deliver (open_of (terms_of task.now) stack.old) (tree_of value.old)) }
+    ensures last { IfOk result (λ more. more ≡ false → is_option (kind_of stack.new.top) ≡ false) }
+    ensures fewer { IfOk result (λ more. more ≡ true → length (open_of (terms_of task.now) stack.new) < length (open_of (terms_of task.now) stack.old)) }
     ensures memory { IfErr result (λ e. told_stop e ≡ None) }
 {
-    if !closes_option(task, stack) {
+    if !closes_option(stack) {
         return Ok(false);
     }
     let inner = std::mem::replace(value, Value::None);
@@ -59,14 +59,14 @@ fn lift<'de>(
 }
 
 /// Closes the innermost frame, if it is an option.
-fn closes_option(task: &Task<'_, '_>, stack: &mut Vec<Frame<'_>>) -> bool
-    ensures exact { result ≡ tops_option (kind_at stack.old.items) }
-    ensures closed { result ≡ true → open_of (terms_of task.now) stack.old.items ≡ option ∷ open_of (terms_of task.now) stack.new.items }
-    ensures same { result ≡ false → stack.new.items ≡ stack.old.items }
+fn closes_option(stack: &mut Stack<'_>) -> bool
+    ensures exact { result ≡ is_option (kind_of stack.old.top) }
+    ensures closed { (t : Terms) → result ≡ true → open_of t stack.old ≡ option ∷ open_of t stack.new }
+    ensures same { result ≡ false → stack.new ≡ stack.old }
 {
-    match innermost(stack.as_slice()) {
-        Some(FrameKind::Option) => {
-            take_option(stack);
+    match kind_of(&stack.top) {
+        FrameKind::Option => {
+            close_option(stack);
             true
         }
         _ => false,
@@ -76,94 +76,106 @@ fn closes_option(task: &Task<'_, '_>, stack: &mut Vec<Frame<'_>>) -> bool
 /// The value goes into the innermost frame, which is no option.
 fn put_down<'de>(
     task: &Task<'_, '_>,
-    stack: &mut Vec<Frame<'de>>,
+    stack: &mut Stack<'de>,
     value: Value<'de>,
 ) -> Result<Moved<'de>, ReadStop<'de>>
-    requires { tops_option (kind_at stack.old.items) ≡ false }
-    ensures exact { Gives told_stop (λ m. moved_of m (open_of (terms_of task.now) stack.new.items)) result (deliver (open_of (terms_of task.now) stack.old.items) (tree_of value.entry)) }
+    requires { is_option (kind_of stack.old.top) ≡ false }
+    ensures exact { Gives told_stop (λ m. moved_of m (open_of (terms_of task.now) stack.new)) result (deliver (open_of (terms_of task.now) stack.old) (tree_of value.entry)) }
     ensures own { IfErr result (λ e. IsOwn (told_stop e)) }
 {
-    match innermost(stack.as_slice()) {
-        None => Ok(Moved::Whole(value)),
-        Some(FrameKind::Items) => put_item(task, stack, value),
-        Some(FrameKind::Elements) => put_element(task, stack, value),
-        Some(FrameKind::KeyedItem) => put_keyed(task, stack, value),
-        Some(FrameKind::Field) => put_field(task, stack, value),
-        Some(FrameKind::ResultSide) => put_side(task, stack, value),
+    match kind_of(&stack.top) {
+        FrameKind::Bottom => Ok(Moved::Whole(value)),
+        FrameKind::Items => put_item(stack, value),
+        FrameKind::Elements => put_element(stack, value),
+        FrameKind::KeyedItem => put_keyed(stack, value),
+        FrameKind::Field => put_field(stack, value),
+        FrameKind::ResultSide => put_side(stack, value),
         _ => Err(no_step(task)),
     }
 }
 
-fn put_item<'de>(
-    task: &Task<'_, '_>,
-    stack: &mut Vec<Frame<'de>>,
-    value: Value<'de>,
-) -> Result<Moved<'de>, ReadStop<'de>>
-    requires { kind_at stack.old.items ≡ Some kinds.Items }
-    ensures exact { Gives told_stop (λ m. moved_of m (open_of (terms_of task.now) stack.new.items)) result (deliver (open_of (terms_of task.now) stack.old.items) (tree_of value.entry)) }
-    ensures own { IfErr result (λ e. IsOwn (told_stop e)) }
+fn put_item<'de>(stack: &mut Stack<'de>, value: Value<'de>) -> Result<Moved<'de>, ReadStop<'de>>
+    requires { kind_of stack.old.top ≡ kinds.Items }
+    ensures exact { (t : Terms) → Gives told_stop (λ m. moved_of m (open_of t stack.new)) result (deliver (open_of t stack.old) (tree_of value.entry)) }
+    ensures memory { IfErr result (λ e. told_stop e ≡ None) }
 {
-    let mut part = take_items(stack);
-    part.front.push(value)?;
-    open_frame(stack, Frame::Items(part))?;
-    Ok(Moved::To(Next::Inside))
+    match &mut stack.top {
+        Frame::Items(part) => {
+            part.front.push(value)?;
+            Ok(Moved::To(Next::Inside))
+        }
+        _ => unreachable!(),
+    }
 }
 
-fn put_element<'de>(
-    task: &Task<'_, '_>,
-    stack: &mut Vec<Frame<'de>>,
-    value: Value<'de>,
-) -> Result<Moved<'de>, ReadStop<'de>>
-    requires { kind_at stack.old.items ≡ Some kinds.Elements }
-    ensures exact { Gives told_stop (λ m. moved_of m (open_of (terms_of task.now) stack.new.items)) result (deliver (open_of (terms_of task.now) stack.old.items) (tree_of value.entry)) }
-    ensures own { IfErr result (λ e. IsOwn (told_stop e)) }
+fn put_element<'de>(stack: &mut Stack<'de>, value: Value<'de>) -> Result<Moved<'de>, ReadStop<'de>>
+    requires { kind_of stack.old.top ≡ kinds.Elements }
+    ensures exact { (t : Terms) → Gives told_stop (λ m. moved_of m (open_of t stack.new)) result (deliver (open_of t stack.old) (tree_of value.entry)) }
+    ensures memory { IfErr result (λ e. told_stop e ≡ None) }
 {
-    let mut part = take_elements(stack);
-    part.front.push(value)?;
-    open_frame(stack, Frame::Elements(part))?;
-    Ok(Moved::To(Next::Inside))
+    match &mut stack.top {
+        Frame::Elements(part) => {
+            part.front.push(value)?;
+            Ok(Moved::To(Next::Inside))
+        }
+        _ => unreachable!(),
+    }
 }
 
-fn put_keyed<'de>(
-    task: &Task<'_, '_>,
-    stack: &mut Vec<Frame<'de>>,
-    value: Value<'de>,
-) -> Result<Moved<'de>, ReadStop<'de>>
-    requires { kind_at stack.old.items ≡ Some kinds.KeyedItem }
-    ensures exact { Gives told_stop (λ m. moved_of m (open_of (terms_of task.now) stack.new.items)) result (deliver (open_of (terms_of task.now) stack.old.items) (tree_of value.entry)) }
-    ensures own { IfErr result (λ e. IsOwn (told_stop e)) }
+fn put_keyed<'de>(stack: &mut Stack<'de>, value: Value<'de>) -> Result<Moved<'de>, ReadStop<'de>>
+    requires { kind_of stack.old.top ≡ kinds.KeyedItem }
+    ensures exact { (t : Terms) → Gives told_stop (λ m. moved_of m (open_of t stack.new)) result (deliver (open_of t stack.old) (tree_of value.entry)) }
+    ensures memory { IfErr result (λ e. told_stop e ≡ None) }
 {
-    let mut part = take_keyed_item(stack);
-    part.front.push(value)?;
-    open_frame(stack, Frame::Keyed(part))?;
-    Ok(Moved::To(Next::Inside))
+    match &mut stack.top {
+        Frame::Keyed(part) => {
+            part.front.push(value)?;
+            part.after_key = false;
+            Ok(Moved::To(Next::Inside))
+        }
+        _ => unreachable!(),
+    }
 }
 
-fn put_field<'de>(
-    task: &Task<'_, '_>,
-    stack: &mut Vec<Frame<'de>>,
-    value: Value<'de>,
-) -> Result<Moved<'de>, ReadStop<'de>>
-    requires { kind_at stack.old.items ≡ Some kinds.Field }
-    ensures exact { Gives told_stop (λ m. moved_of m (open_of (terms_of task.now) stack.new.items)) result (deliver (open_of (terms_of task.now) stack.old.items) (tree_of value.entry)) }
-    ensures own { IfErr result (λ e. IsOwn (told_stop e)) }
+fn put_field<'de>(stack: &mut Stack<'de>, value: Value<'de>) -> Result<Moved<'de>, ReadStop<'de>>
+    requires { kind_of stack.old.top ≡ kinds.Field }
+    ensures exact { (t : Terms) → Gives told_stop (λ m. moved_of m (open_of t stack.new)) result (deliver (open_of t stack.old) (tree_of value.entry)) }
+    ensures memory { IfErr result (λ e. told_stop e ≡ None) }
 {
-    let (mut part, key) = take_field(stack);
-    part.filled.push(Filled { key, value })?;
-    open_frame(stack, Frame::Object(part))?;
-    Ok(Moved::To(Next::Inside))
+    match &mut stack.top {
+        Frame::Object(part) => {
+            fill_field(part, value)?;
+            Ok(Moved::To(Next::Inside))
+        }
+        _ => unreachable!(),
+    }
 }
 
-fn put_side<'de>(
-    task: &Task<'_, '_>,
-    stack: &mut Vec<Frame<'de>>,
-    value: Value<'de>,
-) -> Result<Moved<'de>, ReadStop<'de>>
-    requires { kind_at stack.old.items ≡ Some kinds.ResultSide }
-    ensures exact { Gives told_stop (λ m. moved_of m (open_of (terms_of task.now) stack.new.items)) result (deliver (open_of (terms_of task.now) stack.old.items) (tree_of value.entry)) }
-    ensures own { IfErr result (λ e. IsOwn (told_stop e)) }
+/// The value goes under the key that was taken.
+fn fill_field<'de>(part: &mut StructPart<'de>, value: Value<'de>) -> Result<(), OutOfMemory>
+    requires { IsSome part.old.key }
+    ensures { (t : Terms) (fs : Frames) → OnOk result (Ok (going (object_frame (struct_of t part.new) part.new.key ∷ fs)) ≡ deliver (object_frame (struct_of t part.old) part.old.key ∷ fs) (tree_of value.entry)) }
 {
-    let (_, ok) = take_result_side(stack);
-    open_frame(stack, Frame::ResultEnd(ok, value))?;
-    Ok(Moved::To(Next::Inside))
+    match part.key.take() {
+        Some(key) => {
+            part.filled.push(Filled { key, value })?;
+            Ok(())
+        }
+        None => unreachable!(),
+    }
+}
+
+fn put_side<'de>(stack: &mut Stack<'de>, value: Value<'de>) -> Result<Moved<'de>, ReadStop<'de>>
+    requires { kind_of stack.old.top ≡ kinds.ResultSide }
+    ensures exact { (t : Terms) → Gives told_stop (λ m. moved_of m (open_of t stack.new)) result (deliver (open_of t stack.old) (tree_of value.entry)) }
+    ensures memory { IfErr result (λ e. told_stop e ≡ None) }
+{
+    match &stack.top {
+        Frame::ResultSide(_, ok) => {
+            let ok = *ok;
+            stack.replace(Frame::ResultEnd(ok, value));
+            Ok(Moved::To(Next::Inside))
+        }
+        _ => unreachable!(),
+    }
 }

@@ -19,8 +19,8 @@ ghost use Rattle.read_steps.specs.Views.{open_of, got_of, told_of};
 
 use crate::fields::{field_at, fields_of};
 use crate::filled::{Filled, Taken, take_value};
-use crate::frames::Frame;
 use crate::refusal::{never, refusal, shape_name};
+use crate::stack::Stack;
 use crate::stop::ReadStop;
 use crate::task::Task;
 use event_core::{DeserializeErrorKind, Span};
@@ -30,7 +30,7 @@ use shape_core::{Def, Field, Items, ShapeId, Shapes, Value};
 #[tactic(auto, using(crate::proofs::Gathers::gathered_is, crate::proofs::Gathers::gathered_fails))]
 pub fn gather<'de>(
     task: &Task<'_, '_>,
-    stack: &[Frame<'_>],
+    stack: &Stack<'_>,
     shape: ShapeId,
     filled: Vec<Filled<'de>>,
     span: Span,
@@ -55,7 +55,7 @@ pub fn structure<'de>(values: Items<Value<'de>>) -> Value<'de>
 
 fn gather_fields<'de>(
     task: &Task<'_, '_>,
-    stack: &[Frame<'_>],
+    stack: &Stack<'_>,
     shape: ShapeId,
     filled: &mut Vec<Filled<'de>>,
     span: Span,
@@ -71,7 +71,7 @@ fn gather_fields<'de>(
 
 fn gather_values<'de>(
     task: &Task<'_, '_>,
-    stack: &[Frame<'_>],
+    stack: &Stack<'_>,
     shape: ShapeId,
     fields: &[Field],
     filled: &mut Vec<Filled<'de>>,
@@ -95,7 +95,7 @@ fn gather_values<'de>(
 /// The value of a field: what was read of it, or what its shape has where it is absent.
 fn own_value<'de>(
     task: &Task<'_, '_>,
-    stack: &[Frame<'_>],
+    stack: &Stack<'_>,
     shape: ShapeId,
     field: &Field,
     told: Taken<'de>,
@@ -107,14 +107,14 @@ fn own_value<'de>(
     match told {
         Taken::Once(value) => Ok(value),
         Taken::Nothing => absent_value(task, stack, shape, field, span),
-        Taken::Twice => Err(never(task, stack, span)),
+        Taken::Twice => Err(never(task, stack.inside(), span)),
     }
 }
 
 /// What an absent field holds: nothing, where it is an option, and else it has to be there.
 fn absent_value<'de>(
     task: &Task<'_, '_>,
-    stack: &[Frame<'_>],
+    stack: &Stack<'_>,
     shape: ShapeId,
     field: &Field,
     span: Span,
@@ -129,7 +129,7 @@ fn absent_value<'de>(
                 field: field.name.try_clone(task.alloc)?,
                 container_shape: shape_name(task, shape)?,
             };
-            Err(refusal(task, stack, kind, span))
+            Err(refusal(task, stack.inside(), kind, span))
         }
     }
 }
@@ -147,7 +147,7 @@ fn absent<'de>(shapes: &Shapes, field: &Field) -> Option<Value<'de>>
 /// Fills the items of a tuple that are absent behind those that came.
 pub fn fill_items<'de>(
     task: &Task<'_, '_>,
-    stack: &[Frame<'_>],
+    stack: &Stack<'_>,
     shape: ShapeId,
     items: &mut Vec<Value<'de>>,
     span: Span,
@@ -163,7 +163,7 @@ pub fn fill_items<'de>(
 #[tactic(auto, using(crate::proofs::Tuples::filled_more, crate::proofs::Tuples::filled_fails, crate::proofs::Tuples::filled_all, crate::proofs::Tuples::within_fields))]
 fn fill_item<'de>(
     task: &Task<'_, '_>,
-    stack: &[Frame<'_>],
+    stack: &Stack<'_>,
     shape: ShapeId,
     items: &mut Vec<Value<'de>>,
     span: Span,

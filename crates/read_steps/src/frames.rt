@@ -1,14 +1,15 @@
 //! What is open while a value is read.
-ghost use Rattle.std.specs.Prelude.{◌≡◌, ◌∷◌, ◌++◌, [], OnOk};
+ghost use Rattle.std.specs.Prelude.{◌≡◌, []};
 ghost use Rattle.laws_reading.specs.Values.{Terms};
 ghost use Rattle.read_steps.specs.Views.{frames_of};
 
 use crate::filled::Filled;
 use crate::key::Named;
 use crate::opened::Opened;
+use crate::stack::Stack;
 use crate::task::{ItemsOf, Sides};
 use event_core::Span;
-use shape_core::{OutOfMemory, ScalarType, ShapeId, Value};
+use shape_core::{ScalarType, ShapeId, Value};
 use std::alloc::Global;
 
 /// The items of a list or an array so far.
@@ -33,6 +34,8 @@ pub struct TuplePart<'de> {
     pub depth: usize,
     /// The items.
     pub front: Vec<Value<'de>>,
+    /// Whether a key was taken whose item comes, where the tuple stands as an object.
+    pub after_key: bool,
 }
 
 /// The fields of a struct so far.
@@ -44,6 +47,8 @@ pub struct StructPart<'de> {
     pub depth: usize,
     /// The fields that were read.
     pub filled: Vec<Filled<'de>>,
+    /// The key whose value comes, if one does.
+    pub key: Option<Named<'de>>,
 }
 
 /// A result, before it is known what it holds.
@@ -62,39 +67,46 @@ pub struct NodePart<'de> {
     pub shape: ShapeId,
     /// The scalar.
     pub scalar: ScalarType,
-    /// Where the key of its argument stands.
-    pub first: Option<Span>,
+    /// The key of its argument.
+    pub key: ArgumentKey,
     /// The value that the argument set.
     pub value: Option<Value<'de>>,
+}
+
+/// The key of the argument of a node, and where it stands.
+#[derive(Clone, Copy)]
+pub enum ArgumentKey {
+    /// There was none so far.
+    Absent,
+    /// It was taken, and what stands after it comes.
+    Open(Span),
+    /// What stands after it came.
+    Past(Span),
 }
 
 /// What is open of a value, around what is read next.
 #[derive(Drop)]
 pub enum Frame<'de> {
+    /// Nothing is open.
+    Bottom,
     /// An option that holds something.
     Option,
     /// A list or an array.
     Items(ItemsPart<'de>),
     /// A tuple that stands as a sequence.
     Elements(TuplePart<'de>),
-    /// A tuple that stands as an object, before a key.
+    /// A tuple that stands as an object, before a key or after one.
     Keyed(TuplePart<'de>),
-    /// The same, behind a key.
-    KeyedItem(TuplePart<'de>),
-    /// A struct before a key.
+    /// A struct, before a key or after one.
     Object(StructPart<'de>),
-    /// The same, behind this key.
-    Field(StructPart<'de>, Named<'de>),
     /// A result before its key.
     ResultKey(ResultPart),
-    /// The same behind its key, which says whether it went well.
+    /// The same after its key, which says whether it went well.
     ResultSide(ResultPart, bool),
     /// The same before its end, with what it holds.
     ResultEnd(bool, Value<'de>),
-    /// A node that stands for a scalar, before a key.
+    /// A node that stands for a scalar, before a key or after that of its argument.
     Node(NodePart<'de>),
-    /// The same behind the key of its argument, which stands there.
-    Argument(NodePart<'de>, Span),
 }
 
 // What a level of a value costs while it is open.
@@ -128,7 +140,7 @@ pub enum Moved<'de> {
 /// All that is open of a value, and what comes next.
 #[derive(Drop)]
 pub struct Frames<'de> {
-    pub(crate) stack: Vec<Frame<'de>>,
+    pub(crate) stack: Stack<'de>,
     pub(crate) next: Next,
 }
 
@@ -138,16 +150,8 @@ impl<'de> Frames<'de> {
         ensures { (t : Terms) → frames_of t result ≡ [] }
     {
         Frames {
-            stack: Vec::new(alloc),
+            stack: Stack::new(alloc),
             next: Next::Inside,
         }
     }
-}
-
-/// Opens a frame inside those that are open.
-pub fn open_frame<'de>(stack: &mut Vec<Frame<'de>>, frame: Frame<'de>) -> Result<(), OutOfMemory>
-    ensures { OnOk result (stack.new.items ≡ stack.old.items ++ (frame.entry ∷ [])) }
-{
-    stack.push(frame)?;
-    Ok(())
 }

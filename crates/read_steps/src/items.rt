@@ -1,5 +1,5 @@
 //! The items of lists and arrays.
-ghost use Rattle.std.specs.Prelude.{◌≡◌, map, IfErr, Some};
+ghost use Rattle.std.specs.Prelude.{◌≡◌, map, IfErr};
 ghost use Rattle.semantics.specs.Labels.{label_at};
 ghost use Rattle.semantics.specs.Seen.{ends_sequence};
 ghost use Rattle.semantics_lines.specs.Trees.{list, trees_of};
@@ -12,16 +12,17 @@ ghost use Rattle.read_steps.specs.Refusals.{length_fault_in};
 ghost use Rattle.read_steps.specs.Stepping.{items_done};
 ghost use Rattle.read_steps.specs.Stops.{told_stop, Gives, IsFault, IsOwn};
 ghost use Rattle.read_steps.specs.Tasks.{terms_of};
-ghost use Rattle.read_steps.specs.Views.{open_of, moved_of, items_of};
-ghost use Rattle.read_steps.specs.Kinds.{kind_at};
+ghost use Rattle.read_steps.specs.Views.{open_of, moved_of, items_of, place_of};
+ghost use Rattle.read_steps.specs.Kinds.{kind_of};
 ghost use Rattle.read_steps.specs.declared.kind.FrameKind.TheVariants as kinds;
 
 use crate::begin::begin_part;
 use crate::delivery::deliver;
 use crate::fits::ends_sequence;
-use crate::frames::{Frame, ItemsPart, Moved, open_frame};
-use crate::parts::take_items;
+use crate::frames::{Frame, ItemsPart, Moved};
+use crate::parts::close_items;
 use crate::refusal::{never, other_length};
+use crate::stack::{Place, Stack};
 use crate::stop::ReadStop;
 use crate::task::{ItemsOf, Task};
 use event_core::{ParseEvent, Span};
@@ -31,43 +32,54 @@ use shape_core::{Items, ShapeId, Value};
 #[tactic(auto, using(crate::proofs::Lengths::length_is))]
 pub fn step_items<'de>(
     task: &Task<'_, '_>,
-    stack: &mut Vec<Frame<'de>>,
+    stack: &mut Stack<'de>,
     before: Span,
     event: &mut ParseEvent<'de>,
 ) -> Result<Moved<'de>, ReadStop<'de>>
-    requires { kind_at stack.old.items ≡ Some kinds.Items }
-    ensures exact { Gives told_stop (λ m. moved_of m (open_of (terms_of task.now) stack.new.items)) result (step_at (terms_of task.now) (open_of (terms_of task.now) stack.old.items) (span_view before) (event_of event.old)) }
+    requires { kind_of stack.old.top ≡ kinds.Items }
+    ensures exact { Gives told_stop (λ m. moved_of m (open_of (terms_of task.now) stack.new)) result (step_at (terms_of task.now) (open_of (terms_of task.now) stack.old) (span_view before) (event_of event.old)) }
     ensures own { IfErr result (λ e. IsOwn (told_stop e)) }
 {
-    let part = take_items(stack);
     if ends_sequence(event) {
         let span = event.span;
+        let part = close_items(stack);
         return end_items(task, stack, part, span);
     }
-    let at = part.front.len();
-    if !part.of.has_room(at) {
-        return Err(wrong_length(task, stack.as_slice(), part.shape, part.of, at + 1, before));
+    match &stack.top {
+        Frame::Items(part) => {
+            let at = part.front.len();
+            if !part.of.has_room(at) {
+                return Err(wrong_length(
+                    task,
+                    stack.outside(),
+                    part.shape,
+                    part.of,
+                    at + 1,
+                    before,
+                ));
+            }
+            let item = part.of.item;
+            let depth = part.depth;
+            begin_part(task, stack, item, depth, before, event)
+        }
+        _ => unreachable!(),
     }
-    let item = part.of.item;
-    let depth = part.depth;
-    open_frame(stack, Frame::Items(part))?;
-    begin_part(task, stack, item, depth, before, event)
 }
 
 /// The list or the array of all items.
 #[tactic(auto, using(crate::proofs::Lengths::length_is))]
 fn end_items<'de>(
     task: &Task<'_, '_>,
-    stack: &mut Vec<Frame<'de>>,
+    stack: &mut Stack<'de>,
     part: ItemsPart<'de>,
     span: Span,
 ) -> Result<Moved<'de>, ReadStop<'de>>
-    ensures exact { Gives told_stop (λ m. moved_of m (open_of (terms_of task.now) stack.new.items)) result (items_done (terms_of task.now) (items_of (terms_of task.now) part.entry) (open_of (terms_of task.now) stack.old.items) (span_view span)) }
+    ensures exact { Gives told_stop (λ m. moved_of m (open_of (terms_of task.now) stack.new)) result (items_done (terms_of task.now) (items_of (terms_of task.now) part.entry) (open_of (terms_of task.now) stack.old) (span_view span)) }
     ensures own { IfErr result (λ e. IsOwn (told_stop e)) }
 {
     let got = part.front.len();
     if !part.of.is_whole(got) {
-        return Err(wrong_length(task, stack.as_slice(), part.shape, part.of, got, span));
+        return Err(wrong_length(task, stack.inside(), part.shape, part.of, got, span));
     }
     deliver(task, stack, list_of(part.front))
 }
@@ -82,17 +94,17 @@ fn list_of<'de>(items: Vec<Value<'de>>) -> Value<'de>
 /// Why an array of another length is refused. A list has none.
 pub fn wrong_length<'e>(
     task: &Task<'_, '_>,
-    stack: &[Frame<'_>],
+    place: Place<'_, '_>,
     shape: ShapeId,
     of: ItemsOf,
     got: usize,
     span: Span,
 ) -> ReadStop<'e>
-    ensures is { IsFault (told_stop result) (length_fault_in (terms_of task.now) (open_of (terms_of task.now) stack.now) of.len (label_at (registry task.now.shapes.now) shape.0) got (span_view span)) }
+    ensures is { IsFault (told_stop result) (length_fault_in (terms_of task.now) (place_of (terms_of task.now) place.entry) of.len (label_at (registry task.now.shapes.now) shape.0) got (span_view span)) }
     ensures own { IsOwn (told_stop result) }
 {
     match of.len {
-        Some(wanted) => other_length(task, stack, shape, wanted, got, span),
-        None => never(task, stack, span),
+        Some(wanted) => other_length(task, place, shape, wanted, got, span),
+        None => never(task, place, span),
     }
 }

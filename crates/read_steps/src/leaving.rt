@@ -11,6 +11,7 @@ ghost use Rattle.read_steps.specs.Views.{frames_of, open_of, items_of, tuple_of}
 use crate::fields::field_at;
 use crate::fits::{ends_sequence, is_nothing_event};
 use crate::frames::{Frame, Frames, ItemsPart, Next, TuplePart};
+use crate::stack::Stack;
 use crate::task::{Task, Wanted};
 use event_core::ParseEvent;
 use shape_core::{Def, ShapeId, Shapes};
@@ -27,7 +28,7 @@ pub fn leaves(task: &Task<'_, '_>, frames: &Frames<'_>, event: &ParseEvent<'_>) 
             *depth,
             event,
         ),
-        Next::Inside => open_leaves(task, frames.stack.as_slice(), event),
+        Next::Inside => open_leaves(task, &frames.stack, event),
         Next::Passed(_) => false,
     }
 }
@@ -92,12 +93,12 @@ fn descend(task: &Task<'_, '_>, wanted: &mut Wanted, event: &ParseEvent<'_>) -> 
     }
 }
 
-fn open_leaves(task: &Task<'_, '_>, stack: &[Frame<'_>], event: &ParseEvent<'_>) -> bool
+fn open_leaves(task: &Task<'_, '_>, stack: &Stack<'_>, event: &ParseEvent<'_>) -> bool
     ensures { result ≡ leaves (terms_of task.now) (open_of (terms_of task.now) stack.now) (event_of event.now) }
 {
-    match stack.last() {
-        Some(Frame::Items(part)) => items_leave(task, part, event),
-        Some(Frame::Elements(part)) => tuple_leaves(task, part, event),
+    match &stack.top {
+        Frame::Items(part) => items_leave(task, part, event),
+        Frame::Elements(part) => tuple_leaves(task, part, event),
         _ => false,
     }
 }

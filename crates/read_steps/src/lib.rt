@@ -27,6 +27,7 @@ mod pass;
 mod path;
 mod refusal;
 mod scalar;
+mod stack;
 mod steps;
 mod stop;
 mod task;

@@ -15,17 +15,18 @@ ghost use Rattle.read_steps.specs.Refusals.{fault_in};
 ghost use Rattle.read_steps.specs.Stops.{told_stop, Gives, IsFault, IsOwn};
 ghost use Rattle.read_steps.specs.Tasks.{terms_of};
 ghost use Rattle.read_steps.specs.Views.{open_of, moved_of, result_of};
-ghost use Rattle.read_steps.specs.Kinds.{kind_at};
+ghost use Rattle.read_steps.specs.Kinds.{kind_of};
 ghost use Rattle.read_steps.specs.declared.kind.FrameKind.TheVariants as kinds;
 
 use crate::awaiting::await_next;
 use crate::delivery::deliver;
 use crate::expected::{Expected, Unfit};
 use crate::fits::fit_struct_end;
-use crate::frames::{Frame, Moved, open_frame};
+use crate::frames::{Frame, Moved};
 use crate::key::take_name;
-use crate::parts::{take_result_end, take_result_key};
+use crate::parts::close_result;
 use crate::refusal::{refusal, unexpected};
+use crate::stack::Stack;
 use crate::stop::ReadStop;
 use crate::task::Task;
 use event_core::{DeserializeErrorKind, FieldKey, ParseEvent, ParseEventKind, Span};
@@ -41,61 +42,60 @@ pub enum NoSide<'de> {
     Other(Text<'de>),
 }
 
-/// The key of a result, behind which what it holds has to come.
+/// The key of a result, after which what it holds has to come.
 pub fn step_side<'de>(
     task: &Task<'_, '_>,
-    stack: &mut Vec<Frame<'de>>,
+    stack: &mut Stack<'de>,
     before: Span,
     event: &mut ParseEvent<'de>,
 ) -> Result<Moved<'de>, ReadStop<'de>>
-    requires { kind_at stack.old.items ≡ Some kinds.ResultKey }
-    ensures exact { Gives told_stop (λ m. moved_of m (open_of (terms_of task.now) stack.new.items)) result (step_at (terms_of task.now) (open_of (terms_of task.now) stack.old.items) (span_view before) (event_of event.old)) }
+    requires { kind_of stack.old.top ≡ kinds.ResultKey }
+    ensures exact { Gives told_stop (λ m. moved_of m (open_of (terms_of task.now) stack.new)) result (step_at (terms_of task.now) (open_of (terms_of task.now) stack.old) (span_view before) (event_of event.old)) }
     ensures own { IfErr result (λ e. IsOwn (told_stop e)) }
 {
-    let part = take_result_key(stack);
-    let span = event.span;
-    match fit_side(event) {
-        Ok(ok) => {
-            open_frame(stack, Frame::ResultSide(part, ok))?;
-            await_next(
-                task,
-                stack.as_slice(),
-                part.sides.side(ok).shape,
-                part.depth,
-                span,
-            )
+    match &stack.top {
+        Frame::ResultKey(part) => {
+            let part = *part;
+            let span = event.span;
+            match fit_side(event) {
+                Ok(ok) => {
+                    stack.replace(Frame::ResultSide(part, ok));
+                    await_next(task, stack, part.sides.side(ok).shape, part.depth, span)
+                }
+                Err(other) => Err(no_side(task, stack, other, span)),
+            }
         }
-        Err(other) => Err(no_side(task, stack.as_slice(), other, span)),
+        _ => unreachable!(),
     }
 }
 
-/// The end of a result, behind what it holds.
+/// The end of a result, after what it holds.
 #[tactic(auto, using(crate::proofs::Results::close_is))]
 pub fn step_end<'de>(
     task: &Task<'_, '_>,
-    stack: &mut Vec<Frame<'de>>,
+    stack: &mut Stack<'de>,
     before: Span,
     event: &ParseEvent<'_>,
 ) -> Result<Moved<'de>, ReadStop<'de>>
-    requires { kind_at stack.old.items ≡ Some kinds.ResultEnd }
-    ensures exact { Gives told_stop (λ m. moved_of m (open_of (terms_of task.now) stack.new.items)) result (step_at (terms_of task.now) (open_of (terms_of task.now) stack.old.items) (span_view before) (event_of event.now)) }
+    requires { kind_of stack.old.top ≡ kinds.ResultEnd }
+    ensures exact { Gives told_stop (λ m. moved_of m (open_of (terms_of task.now) stack.new)) result (step_at (terms_of task.now) (open_of (terms_of task.now) stack.old) (span_view before) (event_of event.now)) }
     ensures own { IfErr result (λ e. IsOwn (told_stop e)) }
 {
-    let (ok, held) = take_result_end(stack);
+    let (ok, held) = close_result(stack);
     let span = event.span;
     match fit_struct_end(Expected::ResultVariantEnd, event) {
         Ok(()) => end_result(task, stack, ok, held),
-        Err(unfit) => Err(unexpected(task, stack.as_slice(), unfit, span)),
+        Err(unfit) => Err(unexpected(task, stack, unfit, span)),
     }
 }
 
 fn end_result<'de>(
     task: &Task<'_, '_>,
-    stack: &mut Vec<Frame<'de>>,
+    stack: &mut Stack<'de>,
     ok: bool,
     held: Value<'de>,
 ) -> Result<Moved<'de>, ReadStop<'de>>
-    ensures exact { Gives told_stop (λ m. moved_of m (open_of (terms_of task.now) stack.new.items)) result (deliver (open_of (terms_of task.now) stack.old.items) (outcome ok (tree_of held.entry))) }
+    ensures exact { Gives told_stop (λ m. moved_of m (open_of (terms_of task.now) stack.new)) result (deliver (open_of (terms_of task.now) stack.old) (outcome ok (tree_of held.entry))) }
     ensures own { IfErr result (λ e. IsOwn (told_stop e)) }
 {
     match outcome(task.alloc, ok, held) {
@@ -158,7 +158,7 @@ fn side_of<'de>(name: Text<'de>) -> Result<bool, NoSide<'de>>
 /// The fault of a key that names no side, which stands there.
 fn no_side<'e>(
     task: &Task<'_, '_>,
-    stack: &[Frame<'_>],
+    stack: &Stack<'_>,
     no_side: NoSide<'_>,
     span: Span,
 ) -> ReadStop<'e>
@@ -173,7 +173,7 @@ fn no_side<'e>(
                     got: Text::Owned(Name::from_string(got)),
                     expected: Expected::OkOrErr.text(),
                 };
-                refusal(task, stack, kind, span)
+                refusal(task, stack.inside(), kind, span)
             }
             Err(_) => ReadStop::Alloc,
         },

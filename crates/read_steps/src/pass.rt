@@ -1,15 +1,18 @@
 //! Passes over values.
-ghost use Rattle.std.specs.Prelude.{◌≡◌, ◌∷◌, IfErr};
+ghost use Rattle.std.specs.Prelude.{◌≡◌, ◌∷◌, [], IfErr};
 ghost use Rattle.event_core.specs.Events.{event_of};
+ghost use Rattle.laws_machine.specs.Delivery.{going};
+ghost use Rattle.laws_machine.specs.Frames.{Frames, passing};
 ghost use Rattle.laws_machine.specs.Steps.{pass_step};
 ghost use Rattle.read_steps.specs.Passing.{opened_of};
 ghost use Rattle.read_steps.specs.Stops.{told_stop, Gives, IsOwn};
 ghost use Rattle.read_steps.specs.Tasks.{terms_of};
 ghost use Rattle.read_steps.specs.Views.{open_of, moved_of};
 
-use crate::frames::{Frame, Moved, Next};
+use crate::frames::{Moved, Next};
 use crate::opened::{NotPassed, Opened};
 use crate::refusal::unexpected;
+use crate::stack::Stack;
 use crate::stop::ReadStop;
 use crate::task::Task;
 use event_core::ParseEvent;
@@ -18,7 +21,7 @@ use event_core::ParseEvent;
 #[tactic(auto, using(crate::proofs::Passings::passes_on, crate::proofs::Passings::passed_last, crate::proofs::Passings::not_passed))]
 pub fn pass_event<'de>(
     task: &Task<'_, '_>,
-    stack: &[Frame<'_>],
+    stack: &Stack<'_>,
     opened: Opened,
     event: &ParseEvent<'_>,
 ) -> Result<Moved<'de>, ReadStop<'de>>
@@ -34,4 +37,11 @@ pub fn pass_event<'de>(
         Err(NotPassed::Unfit(unfit)) => Err(unexpected(task, stack, unfit, span)),
         Err(NotPassed::Alloc) => Err(ReadStop::Alloc),
     }
+}
+
+/// A key was taken whose value is passed over.
+pub fn pass_entry<'de>(task: &Task<'_, '_>) -> Moved<'de>
+    ensures { (fs : Frames) → moved_of result fs ≡ going (passing [] ∷ fs) }
+{
+    Moved::To(Next::Passed(Opened::new(task.alloc)))
 }

@@ -2,26 +2,31 @@
 ghost use Rattle.std.specs.Prelude.{◌≡◌, ◌∷◌, [], ◌++◌, slice_get, IfOk, OnOk};
 ghost use Rattle.semantics_lines.specs.Faults.{index_step, variant_step};
 ghost use Rattle.event_core.specs.Faults.{path_of};
-ghost use Rattle.laws_machine.specs.Frames.{path, path_in};
+ghost use Rattle.laws_reading.specs.Values.{Terms};
+ghost use Rattle.laws_machine.specs.Frames.{Frames, path};
 ghost use Rattle.shape_types.specs.Shapes.{registry};
 ghost use Rattle.read_steps.specs.Refusals.{with_field_step};
 ghost use Rattle.read_steps.specs.Tasks.{terms_of, fields_at};
-ghost use Rattle.read_steps.specs.Views.{frame_of, open_of};
+ghost use Rattle.read_steps.specs.Views.{keyed_frame, object_frame, place_of, struct_of, tuple_of, with_frame};
 
 use crate::fields::field_at;
-use crate::frames::Frame;
+use crate::frames::{Frame, StructPart, TuplePart};
+use crate::stack::Place;
 use crate::task::Task;
 use event_core::{Path, PathSegment};
 use shape_core::{Name, OutOfMemory, ShapeId, Text};
 use std::alloc::Global;
 
-/// The way to what is read inside these frames. It is refused for want of memory alone.
-pub fn path_to<'e>(task: &Task<'_, '_>, stack: &[Frame<'_>]) -> Result<Path<'e>, OutOfMemory>
-    ensures { IfOk result (λ way. path_of way ≡ path (terms_of task.now) (open_of (terms_of task.now) stack.now)) }
+/// The way to what is read there. It is refused for want of memory alone.
+pub fn path_to<'e>(task: &Task<'_, '_>, place: Place<'_, '_>) -> Result<Path<'e>, OutOfMemory>
+    ensures { IfOk result (λ way. path_of way ≡ path (terms_of task.now) (place_of (terms_of task.now) place.entry)) }
 {
     let mut way = Path::new(task.alloc);
-    'frames: for frame in stack {
+    'frames: for frame in place.stack.below.iter() {
         push_step(task, frame, &mut way)?;
+    }
+    if place.inside {
+        push_step(task, &place.stack.top, &mut way)?;
     }
     Ok(way)
 }
@@ -32,22 +37,57 @@ fn push_step<'e>(
     frame: &Frame<'_>,
     way: &mut Path<'e>,
 ) -> Result<(), OutOfMemory>
-    ensures { OnOk result (path_of way.new ≡ path_in (terms_of task.now) (frame_of (terms_of task.now) frame.now) (path_of way.old)) }
+    ensures { (fs : Frames) → path_of way.old ≡ path (terms_of task.now) fs → OnOk result (path_of way.new ≡ path (terms_of task.now) (with_frame (terms_of task.now) frame.now fs)) }
 {
     match frame {
+        Frame::Bottom => {
+            restart(task.alloc, way);
+            Ok(())
+        }
         Frame::Items(part) => push_index(way, part.front.len()),
         Frame::Elements(part) => push_index(way, part.front.len()),
-        Frame::KeyedItem(part) => push_index(way, part.front.len()),
-        Frame::Field(part, key) => push_field(task, part.shape, key.place, way),
+        Frame::Keyed(part) => push_item(part, way),
+        Frame::Object(part) => push_key(task, part, way),
         Frame::ResultSide(part, ok) => push_side(task.alloc, part.sides.side(*ok).name, way),
         _ => Ok(()),
     }
+}
+
+/// Nothing is open there.
+fn restart(alloc: Global, way: &mut Path<'_>)
+    ensures { path_of way.new ≡ [] }
+{
+    drop(std::mem::replace(way, Path::new(alloc)));
 }
 
 fn push_index(way: &mut Path<'_>, at: usize) -> Result<(), OutOfMemory>
     ensures { OnOk result (path_of way.new ≡ path_of way.old ++ (index_step at ∷ [])) }
 {
     way.push(PathSegment::Index(at))
+}
+
+/// The step to the item that comes after a key, if one does.
+fn push_item(part: &TuplePart<'_>, way: &mut Path<'_>) -> Result<(), OutOfMemory>
+    ensures { (t : Terms) (fs : Frames) → path_of way.old ≡ path t fs → OnOk result (path_of way.new ≡ path t (keyed_frame (tuple_of t part.now) part.now.after_key ∷ fs)) }
+{
+    if part.after_key {
+        return push_index(way, part.front.len());
+    }
+    Ok(())
+}
+
+/// The step to the field whose value comes, if one does.
+fn push_key(
+    task: &Task<'_, '_>,
+    part: &StructPart<'_>,
+    way: &mut Path<'_>,
+) -> Result<(), OutOfMemory>
+    ensures { (fs : Frames) → path_of way.old ≡ path (terms_of task.now) fs → OnOk result (path_of way.new ≡ path (terms_of task.now) (object_frame (struct_of (terms_of task.now) part.now) part.now.key ∷ fs)) }
+{
+    match &part.key {
+        Some(key) => push_field(task, part.shape, key.place, way),
+        None => Ok(()),
+    }
 }
 
 fn push_field(

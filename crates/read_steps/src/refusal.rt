@@ -10,27 +10,27 @@ ghost use Rattle.laws_machine.specs.Delivery.{Status, no_step};
 ghost use Rattle.read_steps.specs.Refusals.{fault_in};
 ghost use Rattle.read_steps.specs.Stops.{told_stop, IsFault, IsOwn, Gives};
 ghost use Rattle.read_steps.specs.Tasks.{terms_of};
-ghost use Rattle.read_steps.specs.Views.{open_of};
+ghost use Rattle.read_steps.specs.Views.{open_of, place_of};
 
 use crate::expected::Unfit;
-use crate::frames::Frame;
 use crate::path::path_to;
+use crate::stack::{Place, Stack};
 use crate::stop::ReadStop;
 use crate::task::Task;
 use event_core::{DeserializeError, DeserializeErrorKind, Path, ReflectErrorKind, Span};
 use shape_core::{Name, OutOfMemory, ShapeId, ShapeName, Text};
 
-/// A fault at a place of the input, of what is read inside these frames.
+/// A fault at a place of the input, of what is read there.
 pub fn refusal<'e>(
     task: &Task<'_, '_>,
-    stack: &[Frame<'_>],
+    place: Place<'_, '_>,
     kind: DeserializeErrorKind<'e>,
     span: Span,
 ) -> ReadStop<'e>
     ensures own { IsOwn (told_stop result) }
-    ensures is { IsFault (told_stop result) (fault_in (terms_of task.now) (open_of (terms_of task.now) stack.now) (fault_kind_of kind.entry) (span_view span)) }
+    ensures is { IsFault (told_stop result) (fault_in (terms_of task.now) (place_of (terms_of task.now) place.entry) (fault_kind_of kind.entry) (span_view span)) }
 {
-    match path_to(task, stack) {
+    match path_to(task, place) {
         Ok(path) => ReadStop::fault(task.alloc, placed(kind, span, path)),
         Err(_) => {
             drop(kind);
@@ -49,7 +49,7 @@ fn placed<'e>(kind: DeserializeErrorKind<'e>, span: Span, path: Path<'e>) -> Des
 /// An event that can't stand there.
 pub fn unexpected<'e>(
     task: &Task<'_, '_>,
-    stack: &[Frame<'_>],
+    stack: &Stack<'_>,
     unfit: Unfit,
     span: Span,
 ) -> ReadStop<'e>
@@ -60,28 +60,28 @@ pub fn unexpected<'e>(
         got: Text::Borrowed(unfit.got),
         expected: unfit.expected.text(),
     };
-    refusal(task, stack, kind, span)
+    refusal(task, stack.inside(), kind, span)
 }
 
 /// No depth is left.
-pub fn too_deep<'e>(task: &Task<'_, '_>, stack: &[Frame<'_>], span: Span) -> ReadStop<'e>
+pub fn too_deep<'e>(task: &Task<'_, '_>, stack: &Stack<'_>, span: Span) -> ReadStop<'e>
     ensures own { IsOwn (told_stop result) }
     ensures is { IsFault (told_stop result) (fault_in (terms_of task.now) (open_of (terms_of task.now) stack.now) (too_deep task.now.limit) (span_view span)) }
 {
     let kind = DeserializeErrorKind::TooDeep { limit: task.limit };
-    refusal(task, stack, kind, span)
+    refusal(task, stack.inside(), kind, span)
 }
 
 /// What no event and no value comes to.
-pub fn never<'e>(task: &Task<'_, '_>, stack: &[Frame<'_>], span: Span) -> ReadStop<'e>
+pub fn never<'e>(task: &Task<'_, '_>, place: Place<'_, '_>, span: Span) -> ReadStop<'e>
     ensures own { IsOwn (told_stop result) }
-    ensures is { IsFault (told_stop result) (fault_in (terms_of task.now) (open_of (terms_of task.now) stack.now) bug (span_view span)) }
+    ensures is { IsFault (told_stop result) (fault_in (terms_of task.now) (place_of (terms_of task.now) place.entry) bug (span_view span)) }
 {
     let kind = DeserializeErrorKind::Bug {
         error: Text::Borrowed("nothing comes there"),
         context: "",
     };
-    refusal(task, stack, kind, span)
+    refusal(task, place, kind, span)
 }
 
 /// The same, where not even a frame is open for it.
@@ -103,18 +103,18 @@ pub fn no_step<'e>(task: &Task<'_, '_>) -> ReadStop<'e>
 /// A tuple has no more items.
 pub fn too_many<'e>(
     task: &Task<'_, '_>,
-    stack: &[Frame<'_>],
+    place: Place<'_, '_>,
     shape: ShapeId,
     count: usize,
     span: Span,
 ) -> ReadStop<'e>
     ensures own { IsOwn (told_stop result) }
-    ensures is { IsFault (told_stop result) (fault_in (terms_of task.now) (open_of (terms_of task.now) stack.now) (reflect (too_many_elements (label_at (registry task.now.shapes.now) shape.0) count) []) (span_view span)) }
+    ensures is { IsFault (told_stop result) (fault_in (terms_of task.now) (place_of (terms_of task.now) place.entry) (reflect (too_many_elements (label_at (registry task.now.shapes.now) shape.0) count) []) (span_view span)) }
 {
     match shape_name(task, shape) {
         Ok(shape) => refusal(
             task,
-            stack,
+            place,
             reflected(ReflectErrorKind::TooManyElements { shape, count }),
             span,
         ),
@@ -125,14 +125,14 @@ pub fn too_many<'e>(
 /// An array has another number of items.
 pub fn other_length<'e>(
     task: &Task<'_, '_>,
-    stack: &[Frame<'_>],
+    place: Place<'_, '_>,
     shape: ShapeId,
     wanted: u32,
     got: usize,
     span: Span,
 ) -> ReadStop<'e>
     ensures own { IsOwn (told_stop result) }
-    ensures is { IsFault (told_stop result) (fault_in (terms_of task.now) (open_of (terms_of task.now) stack.now) (reflect (array_length (label_at (registry task.now.shapes.now) shape.0) wanted got) []) (span_view span)) }
+    ensures is { IsFault (told_stop result) (fault_in (terms_of task.now) (place_of (terms_of task.now) place.entry) (reflect (array_length (label_at (registry task.now.shapes.now) shape.0) wanted got) []) (span_view span)) }
 {
     match shape_name(task, shape) {
         Ok(shape) => {
@@ -141,7 +141,7 @@ pub fn other_length<'e>(
                 expected: wanted as usize,
                 got,
             };
-            refusal(task, stack, reflected(kind), span)
+            refusal(task, place, reflected(kind), span)
         }
         Err(_) => ReadStop::Alloc,
     }

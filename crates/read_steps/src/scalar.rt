@@ -15,8 +15,8 @@ ghost use Rattle.read_steps.specs.Stops.{told_stop, Gives, IsFault, IsOwn};
 ghost use Rattle.read_steps.specs.Tasks.{terms_of};
 ghost use Rattle.read_steps.specs.Views.{open_of};
 
-use crate::frames::Frame;
 use crate::refusal::refusal;
+use crate::stack::Stack;
 use crate::stop::{ReadStop, is_memory};
 use crate::task::Task;
 use event_core::{DeserializeErrorKind, ScalarValue, Span};
@@ -26,7 +26,7 @@ use shape_core::{ScalarType, ShapeId, Value};
 /// The value that a scalar sets, which stands there.
 pub fn set_value<'de>(
     task: &Task<'_, '_>,
-    stack: &[Frame<'_>],
+    stack: &Stack<'_>,
     shape: ShapeId,
     target: ScalarType,
     scalar: ScalarValue<'de>,
@@ -44,7 +44,7 @@ pub fn set_value<'de>(
 /// The fault of a scalar that isn't set, unless memory ran out.
 fn refused_set<'e>(
     task: &Task<'_, '_>,
-    stack: &[Frame<'_>],
+    stack: &Stack<'_>,
     kind: DeserializeErrorKind<'e>,
     span: Span,
 ) -> ReadStop<'e>
@@ -56,5 +56,5 @@ fn refused_set<'e>(
         drop(kind);
         return ReadStop::Alloc;
     }
-    refusal(task, stack, kind, span)
+    refusal(task, stack.inside(), kind, span)
 }

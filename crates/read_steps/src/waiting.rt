@@ -2,6 +2,7 @@
 
 use crate::expected::Expected;
 use crate::frames::{Frame, Frames, Next};
+use crate::kind::{FrameKind, kind_of};
 use crate::task::Task;
 use shape_core::{Def, ShapeId, Shapes};
 
@@ -10,7 +11,7 @@ pub fn expected_at_end(task: &Task<'_, '_>, frames: &Frames<'_>) -> &'static str
     let expected = match &frames.next {
         Next::Value { shape, depth: _ } => expected_value(task.shapes, *shape),
         Next::Passed(_) => Expected::SkippedValue,
-        Next::Inside => expected_inside(frames.stack.as_slice()),
+        Next::Inside => expected_inside(&frames.stack.top),
     };
     expected.text()
 }
@@ -23,12 +24,12 @@ fn expected_value(shapes: &Shapes, shape: ShapeId) -> Expected {
     }
 }
 
-fn expected_inside(stack: &[Frame<'_>]) -> Expected {
-    match stack.last() {
-        Some(Frame::ResultKey(_)) => Expected::ResultKey,
-        Some(Frame::ResultEnd(_, _)) => Expected::ResultEnd,
-        Some(Frame::Node(_)) => Expected::FieldOrEnd,
-        Some(Frame::Argument(_, _)) => Expected::Argument,
+fn expected_inside(innermost: &Frame<'_>) -> Expected {
+    match kind_of(innermost) {
+        FrameKind::ResultKey => Expected::ResultKey,
+        FrameKind::ResultEnd => Expected::ResultEnd,
+        FrameKind::Node => Expected::FieldOrEnd,
+        FrameKind::Argument => Expected::Argument,
         _ => Expected::Value,
     }
 }

@@ -6,7 +6,7 @@ use Rattle.read_steps.specs.Views.{open_of}
 use Rattle.read_steps.proofs.delivery.deliver.Given as goal
 
 abbrev pub invariant-options : goal.invariant-options
-invariant-options l = deliver (open_of (terms_of l.task) l.stack.items) (tree_of l.value) ≡ deliver (open_of (terms_of l.task) l.fn.stack.items) (tree_of l.fn.value)
+invariant-options l = deliver (open_of (terms_of l.task) l.stack) (tree_of l.value) ≡ deliver (open_of (terms_of l.task) l.fn.stack) (tree_of l.fn.value)
 
 abbrev pub decreases-options : goal.decreases-options
-decreases-options l = length (open_of (terms_of l.task) l.stack.items)
+decreases-options l = length (open_of (terms_of l.task) l.stack)

@@ -9,7 +9,7 @@ use Rattle.shape_types.specs.Trees.{tree_of}
 use Rattle.read_steps.specs.Refusals.{fault_in}
 use Rattle.read_steps.specs.Stops.{told_stop}
 use Rattle.read_steps.specs.Tasks.{terms_of, fields_at}
-use Rattle.read_steps.specs.Views.{open_of, tuple_of}
+use Rattle.read_steps.specs.Views.{outer_of, tuple_of}
 use Rattle.read_steps.proofs.LeftParts.{element_left}
 use Rattle.read_steps.proofs.Telling.{fault_told}
 use Rattle.read_steps.proofs.left.refuse_element.Goals as goal
@@ -20,7 +20,7 @@ returns-in-Some-clause-exact c =
     let g = registry c.args.task.now.shapes.now in
     let part = c.args.part.now in
     let before = span_view c.args.before in
-    let outer = open_of t c.args.outer.now in
+    let outer = outer_of t c.args.stack.now in
     let count : length (map tree_of part.front.items) ≡ c.len.result = omega (arith, length-map part.front.items tree_of, part.front.ok.0, c.len.ensures) in
     let there : slice_get (fields_at g part.shape.0) (length (map tree_of part.front.items)) ≡ Some (field_of c.in-Some.field-0.now) = ap (slice_get (fields_at g part.shape.0)) count ∙ c.in-Some.ensures in
     fault_told (told_stop c.too_deep.result) _ _ _ c.too_deep.ensures.is
