@@ -6,13 +6,11 @@ use Rattle.std.specs.Prelude.{slice_get}
 use Rattle.std.specs.List.{list_any, AllByRecursion as Every}
 use Rattle.semantics_lines.specs.Shapes.{Field, StructShape, Definition, struct_shape, transparent_shape, Shape, Draft, Registry, definition_of, definition_at}
 use Rattle.semantics_lines.specs.ShapeFaults.{not_built}
-use Rattle.semantics.specs.Registry.{never_skips, has_attribute, is_unbuilt, is_not_built, Rule, rules_of, first_broken, fault_of, lies_on_cycle, drafted, completed, completed_shapes, IsRegistry}
+use Rattle.semantics.specs.Registry.{never_skips, has_unbuilt_attribute, is_unbuilt, is_not_built, Rule, rules_of, first_broken, fault_of, lies_on_cycle, drafted, completed, completed_shapes, IsRegistry}
 use Rattle.semantics.specs.Typed.{through, base_within, base, struct_of, struct_at}
 
 -- a field that can be read and written
 pub record BuiltField (f : Field) : Type 0 where
-  pub rename : f.rename ≡ None
-  pub alias : f.alias ≡ None
   pub default : f.default ≡ None
   pub flattened : f.flattened ≡ false
 
@@ -36,38 +34,31 @@ is_none_at : {A : Type 0} (o : Option A) → is_some o ≡ false → o ≡ None
 is_none_at None e = refl
 is_none_at (Some x) e = absurd cc
 
-field_built : (f : Field) → has_attribute f ≡ false → BuiltField f
+field_built : (f : Field) → has_unbuilt_attribute f ≡ false → BuiltField f
 field_built f e =
-    let (rename, others) = neither (is_some f.rename) (is_some f.alias || (is_some f.default || (not (never_skips f.skip) || (f.flattened || (is_some f.metadata || is_some f.proxy))))) e in
-    let (alias, others) = neither (is_some f.alias) (is_some f.default || (not (never_skips f.skip) || (f.flattened || (is_some f.metadata || is_some f.proxy)))) others in
-    let (default, others) = neither (is_some f.default) (not (never_skips f.skip) || (f.flattened || (is_some f.metadata || is_some f.proxy))) others in
+    let (default, others) = neither (is_some f.default) (not (never_skips f.skip) || (f.flattened || (is_some f.metadata || is_some f.proxy))) e in
     let (skip, others) = neither (not (never_skips f.skip)) (f.flattened || (is_some f.metadata || is_some f.proxy)) others in
     let (flattened, others) = neither f.flattened (is_some f.metadata || is_some f.proxy) others in
     record {
-      rename = is_none_at f.rename rename;
-      alias = is_none_at f.alias alias;
       default = is_none_at f.default default;
       flattened = flattened;
     }
 
-fields_built : (fs : List Field) → list_any has_attribute fs ≡ false → Every BuiltField fs
+fields_built : (fs : List Field) → list_any has_unbuilt_attribute fs ≡ false → Every BuiltField fs
 fields_built [] e = tt
 fields_built (f ∷ fs) e =
-    let (here, rest) = neither (has_attribute f) (list_any has_attribute fs) e in
+    let (here, rest) = neither (has_unbuilt_attribute f) (list_any has_unbuilt_attribute fs) e in
     (field_built f here, fields_built fs rest)
 
 pub struct_built : (s : StructShape) → is_unbuilt (struct_shape s) ≡ false → BuiltStruct s
 struct_built s e =
-    let (deny, others) = neither s.deny (is_some s.default || (s.container || list_any has_attribute s.fields)) e in
-    let (default, others) = neither (is_some s.default) (s.container || list_any has_attribute s.fields) others in
-    let (container, fields) = neither s.container (list_any has_attribute s.fields) others in
+    let (default, others) = neither (is_some s.default) (s.container || list_any has_unbuilt_attribute s.fields) e in
+    let (container, fields) = neither s.container (list_any has_unbuilt_attribute s.fields) others in
     record { fields = fields_built s.fields fields }
 
 -- a struct that is built declares no default
 pub struct_declares_none : (s : StructShape) → is_unbuilt (struct_shape s) ≡ false → s.default ≡ None
-struct_declares_none s e =
-    let (deny, others) = neither s.deny (is_some s.default || (s.container || list_any has_attribute s.fields)) e in
-    is_none_at s.default (neither (is_some s.default) (s.container || list_any has_attribute s.fields) others).0
+struct_declares_none s e = is_none_at s.default (neither (is_some s.default) (s.container || list_any has_unbuilt_attribute s.fields) e).0
 
 pub found_shape : (o : Option Shape) (d : Definition) → option_and_then definition_of o ≡ Some d → (x : Shape) × (o ≡ Some x) × (x.definition ≡ d)
 found_shape None d e = absurd cc

@@ -1,5 +1,5 @@
 -- What a value of a checked registry is written as, permuted: numbers in their range, characters and texts, and keys that are texts.
-use Rattle.std.proofs.Common.{◌≡◌, ℕ, ℤ, pos, negsuc, ◌^◌, List, [], ◌∷◌, ◌++◌, Some, Bool, true, false, ◌&&◌, cond, Ok, codes, refl, sym, ap, ◌∙◌, subst, arith}
+use Rattle.std.proofs.Common.{◌≡◌, ℕ, ℤ, pos, negsuc, ◌^◌, List, [], ◌∷◌, ◌++◌, Option, Some, None, Bool, true, false, ◌&&◌, cond, Ok, codes, refl, sym, ap, ◌∙◌, subst, arith}
 use Rattle.std.proofs.lemmas.Bool.Decides.{nat_tests}
 use Rattle.std.specs.Prelude.{zero, suc, ◌≤◌, nat_lt, slice_get, unwrap_or}
 use Rattle.std.specs.Char.{encode_utf8}
@@ -123,20 +123,24 @@ shape_in (y ∷ g) zero x all e =
     ap shape_is_utf8 (sym is) ∙ (is_both (shape_is_utf8 y) (list_all shape_is_utf8 g) all).0
 shape_in (y ∷ g) (suc s) x all e = shape_in g s x (is_both (shape_is_utf8 y) (list_all shape_is_utf8 g) all).1 e
 
-names_fit : (fs : List Field) → Every BuiltField fs → list_all field_is_utf8 fs ≡ true → Every FieldFits fs
-names_fit [] all texts = tt
-names_fit (f ∷ fs) (b, all) texts =
+effective_utf8 : (name : List ℕ) (rename : Option (List ℕ)) → is_utf8 name ≡ true → name_is_utf8 rename ≡ true → is_utf8 (unwrap_or rename name) ≡ true
+effective_utf8 name None own renamed = own
+effective_utf8 name (Some r) own renamed = renamed
+
+names_fit : (fs : List Field) → list_all field_is_utf8 fs ≡ true → Every FieldFits fs
+names_fit [] texts = tt
+names_fit (f ∷ fs) texts =
     let (here, rest) = is_both (field_is_utf8 f) (list_all field_is_utf8 fs) texts in
     let (name, others) = is_both (is_utf8 f.name) (name_is_utf8 f.rename && name_is_utf8 f.alias) here in
-    let effective : effective_name f ≡ f.name = ap (λ o. unwrap_or o f.name) b.rename in
-    (ap is_utf8 effective ∙ name, names_fit fs all rest)
+    let (rename, alias) = is_both (name_is_utf8 f.rename) (name_is_utf8 f.alias) others in
+    (effective_utf8 f.name f.rename name rename, names_fit fs rest)
 
 fields_fit : (g : Registry) → IsRegistry g → (s : ℕ) (q : StructShape) → struct_at g s ≡ Some q → Every FieldFits q.fields
 fields_fit g checked s q e =
     let (t, at) = struct_defined g s q e in
     let (x, found, is) = found_shape (slice_get g t) (struct_shape q) at in
     let (name, texts) = is_both (is_utf8 x.name) (definition_is_utf8 x.definition) (shape_in g t x checked.utf8 found) in
-    names_fit q.fields (struct_built q (built g checked t (struct_shape q) at)).fields (ap definition_is_utf8 (sym is) ∙ texts)
+    names_fit q.fields (ap definition_is_utf8 (sym is) ∙ texts)
 
 module _ (g : Registry) (checked : IsRegistry g) where
   -- an object of one entry

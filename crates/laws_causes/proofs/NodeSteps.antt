@@ -58,8 +58,7 @@ module _ (t : Terms) where
             earlier = earlier;
             after = a;
             place = ap (in_object holds.kind) cut;
-            clashes = same_argument holds.type (ap (λ w. defined_at t.setting.registry w) holds.of.what ∙ holds.of.defined) named is;
-            text = refl;
+            clashes = same_argument holds.type (ap (λ w. defined_at t.setting.registry w) holds.of.what ∙ holds.of.defined) named is refl;
             first_span = refl;
             at = fits_path t root top fs before part (first_of own None) fits;
           }

@@ -3,19 +3,20 @@ use Rattle.std.proofs.Common.{◌≡◌, inl, inr, ℕ, zero, suc, ◌+◌, ◌<
 use Rattle.std.specs.Prelude.{nat_lt}
 use Rattle.std.specs.List.{AllByRecursion as Every}
 use Rattle.std.proofs.lemmas.Bool.{ltb-true}
+use Rattle.semantics_lines.specs.Texts.{Phrase}
 use Rattle.semantics_lines.specs.Shapes.{Field, struct_shape, Registry, definition_at}
-use Rattle.semantics_lines.specs.Events.{Span, Note, Key, key_note, key, of_struct, Event, leaf, stop}
-use Rattle.semantics_lines.specs.Faults.{unexpected_token, duplicate_field, Fault}
+use Rattle.semantics_lines.specs.Events.{Span, Metadata, Note, Key, named, key_note, key, of_struct, Event, leaf, stop}
+use Rattle.semantics_lines.specs.Faults.{unexpected_token, unknown_field, duplicate_field, Fault}
 use Rattle.semantics.specs.Labels.{label_at}
 use Rattle.semantics.specs.Registry.{IsRegistry}
 use Rattle.semantics.specs.Runs.{Entry}
 use Rattle.semantics.specs.Places.{Path, At, below, all_below, comes_before, is_taken}
 use Rattle.semantics.specs.Keys.{Layout}
-use Rattle.semantics.specs.Reading.{Parts, part_value, parts_by, key_text, plain_layout, fill, read}
+use Rattle.semantics.specs.Reading.{Parts, part_value, parts_by, plain_layout, fill, read}
 use Rattle.semantics.specs.Ends.{Owner, Gap, own_gap, gap_found, gap_flat, gap_at, leaf_flat}
-use Rattle.semantics_causes.specs.Taken.{struct_plan, leads_behind, end_in, placed_in, in_object}
+use Rattle.semantics_causes.specs.Taken.{struct_plan, leads_behind, label_behind, end_in, placed_in, in_object}
 use Rattle.semantics_causes.specs.Due.{Part, defined_at, Spot}
-use Rattle.semantics_causes.specs.Causes.{entry_takes, struct_takes, takes_in_object, At as Refused, IsMissing, Collide, same_part, IsDuplicate}
+use Rattle.semantics_causes.specs.Causes.{entry_takes, struct_takes, takes_in_object, At as Refused, IsMissing, IsUnknown, Collide, same_part, IsDuplicate}
 use Rattle.semantics_causes.specs.Refusals.{OnSpan}
 use Rattle.laws_reading.specs.Input.{fault_at}
 use Rattle.laws_reading.specs.Structs.{Told, taken_span, as_structure, gathered_trees, gathered}
@@ -91,15 +92,35 @@ module _ (t : Terms) (root : Part) (top : root.path ≡ []) (fs : Frames) (befor
       ∙ ap (λ b. cond b (entry_takes e) (struct_takes g [] holds.struct holds.entries e)) holds.defined.plain ∙ none)
       (path t fs) path_is span
 
+  -- a key with a name that leads nowhere, of a struct that refuses such keys
+  pub unknown_here : (u : Phrase) (m : Option Metadata) (note : Note) → leads_behind g [] holds.struct holds.entries (named u m note) ≡ None → holds.struct.deny ≡ true
+      → Caused t root ((before ++ own) ++ (leaf (key (named u m note)) ∷ [])) [] (fault_at (unknown_field u.bytes) (path t fs) (here note.span))
+  unknown_here u m note nowhere denies = record {
+    here = refused (leaf (key (named u m note)));
+    text = u;
+    metadata = m;
+    note = note;
+    event = refl;
+    struct = holds.struct;
+    object = is_object t s part n own holds;
+    container = holds.kind;
+    entries = holds.entries;
+    place = refl;
+    nowhere = nowhere;
+    denies = denies;
+    called = refl;
+    at = path_is;
+  }
+
   -- a key that leads where something stands already
   pub duplicate_here : (q : Key) (p : Path) → leads_behind g [] holds.struct holds.entries q ≡ Some p → is_taken p s.got.values ≡ true
-      → Caused t root ((before ++ own) ++ (leaf (key q) ∷ [])) [] (fault_at (duplicate_field (key_text q) (taken_span p s.got.values)) (path t fs) (here (key_note q).span))
+      → Caused t root ((before ++ own) ++ (leaf (key q) ∷ [])) [] (fault_at (duplicate_field (label_behind g [] holds.struct holds.entries q) (taken_span p s.got.values)) (path t fs) (here (key_note q).span))
   duplicate_here q p lead taken =
       let there = taken_there p s.got.values taken in
       let o = origin_of (end_in g [] holds.struct) (part_value g (read t.setting n)) there.item (placed_in g [] holds.struct holds.entries) s.got.values
       there.among.before there.among.after there.among.is holds.keeps.kept holds.keeps.spanned in
       let c = placed_came (struct_plan g [] holds.struct) 0 o.item holds.entries o.among in
-      subst (λ span. OnSpan span (λ first. IsDuplicate t.setting root ((before ++ own) ++ (leaf (key q) ∷ [])) [] (key_text q) first (path t fs))) (sym there.span) (record {
+      subst (λ span. OnSpan span (λ first. IsDuplicate t.setting root ((before ++ own) ++ (leaf (key q) ∷ [])) [] (label_behind g [] holds.struct holds.entries q) first (path t fs))) (sym there.span) (record {
         here = refused (leaf (key q));
         again = q;
         event = refl;
@@ -109,8 +130,7 @@ module _ (t : Terms) (root : Part) (top : root.path ≡ []) (fs : Frames) (befor
         after = c.after;
         place = ap (in_object holds.kind) c.is;
         clashes = same_part holds.struct (is_object t s part n own holds) p o.item.path (ap (λ es. leads_behind g [] holds.struct es q) (sym c.is) ∙ lead) c.leads_there
-            (subst (λ z. Collide z p) (sym o.path) there.collide);
-        text = refl;
+            (subst (λ z. Collide z p) (sym o.path) there.collide) (ap (λ es. label_behind g [] holds.struct es q) (sym c.is));
         first_span = o.span;
         at = path_is;
       })

@@ -2,10 +2,10 @@
 use Rattle.std.proofs.Common.{◌≡◌, inl, inr, ℕ, zero, suc, ◌+◌, List, [], ◌∷◌, ◌++◌, length, drop, slice_get, Option, Some, None, Result, Ok, Err, Bool, true, false, cond, not, ◌&&◌, ap}
 use Rattle.semantics_lines.specs.Trees.{Tree, structure, none, some, trees_of}
 use Rattle.semantics_lines.specs.Shapes.{Field, StructShape, is_tuple, Registry, Definition, scalar_shape, option_shape, result_shape, list_shape, array_shape, set_shape, map_shape, struct_shape, enum_shape, transparent_shape, definition_at}
-use Rattle.semantics_lines.specs.Events.{Span, no_span, Key, key_note, scalar, key, tag, of_struct, of_sequence, object_kind, array_kind, Event, leaf, start, stop, span_of}
+use Rattle.semantics_lines.specs.Events.{Span, no_span, Key, named, nameless, ordered, key_note, scalar, key, tag, of_struct, of_sequence, object_kind, array_kind, Event, leaf, start, stop, span_of}
 use Rattle.semantics_lines.specs.Faults.{ShapeLabel, Step, FaultKind, Fault, duplicate_field}
 use Rattle.semantics.specs.Places.{Path, At as Placed, below, has_whole, Choice}
-use Rattle.semantics.specs.Keys.{leads, is_allowed}
+use Rattle.semantics.specs.Keys.{leads, key_label, is_allowed}
 use Rattle.semantics.specs.Registry.{has_some}
 use Rattle.semantics.specs.Setters.{Outcome, set_scalar}
 use Rattle.semantics.specs.Typed.{has_length}
@@ -16,7 +16,7 @@ use Rattle.laws_reading.specs.Input.{Input, ◌>>=◌, refused, unexpected, neve
 use Rattle.laws_reading.specs.Skips.{Opened, same_bracket, stopped, skip_of}
 use Rattle.semantics.specs.Ends.{End, leaf_at}
 use Rattle.semantics.specs.Places.{is_taken}
-use Rattle.laws_reading.specs.Structs.{Told, taken_span, Spot, gather_own, gather_field, gather_fields, gather_flat, inner_spot, with_tree, as_structure}
+use Rattle.laws_reading.specs.Structs.{Told, taken_span, key_fault, Spot, gather_own, gather_field, gather_fields, gather_flat, inner_spot, with_tree, as_structure}
 use Rattle.laws_reading.specs.Structs as structs
 use Rattle.laws_reading.specs.Nodes.{Target, or_refused, or_unexpected}
 use Rattle.laws_reading.specs.Options.{side_of, side_in, outcome}
@@ -25,7 +25,7 @@ use Rattle.laws_reading.specs.Tuples.{filled_from, empty_tuple}
 use Rattle.laws_reading.specs.Tuples as tuples
 use Rattle.laws_reading.specs.Values.{Terms}
 use Rattle.laws_machine.specs.Frames.{awaits, option, items, elements, keyed, keyed_item, object, field, outcome_key, outcome_side, outcome_end, node, argument, passing, Frames, ItemsPart, TuplePart, StructPart, ResultPart, NodePart, path}
-use Rattle.laws_machine.specs.Delivery.{going, complete, Steps, here, deliver, handed, past_key, with_argument}
+use Rattle.laws_machine.specs.Delivery.{going, complete, Status, Steps, here, deliver, handed, past_key, with_argument}
 use Rattle.laws_machine.specs.Begins.{begin_scalar, begin_option, begin_result, begin_items, begin_struct, begin_as, begin, await_as, await, await_end}
 use Rattle.laws_machine.specs.Steps.{more_step, item_step, as_tuple, tuple_step, element_in, element_step, keyed_in, keyed_step, entry_step, plan_in, entered, end_step, lead_step, field_step, struct_end, side_step, close_step, pass_on, pass_behind, argument_step, node_step, set_in, set_step}
 use Rattle.laws_machine.specs.Leaves.{unless, leaves_as, begin_leaves, or_past, element_leaves, At, FaultsStand}
@@ -178,11 +178,11 @@ module _ (span : Span) where
     at_side None r fs = at_refused _ (path t fs) span
     at_side (Some b) r fs = at_await r.depth (side_of r.sides b).shape from_events (outcome_side r b ∷ fs)
 
-at_end : (t : Terms) (o : Option End) (s : StructPart) (p : Path) (q : Key) (fs : Frames) → At (key_note q).span (end_step o t s p q fs)
-at_end t None s p q fs = at_never _ (here (key_note q).span) (key_note q).span
-at_end t (Some o) s p q fs = by_taken (not o.many && is_taken p s.got.values)
+at_end : (t : Terms) (name : List ℕ) (o : Option End) (s : StructPart) (p : Path) (q : Key) (fs : Frames) → At (key_note q).span (end_step name o t s p q fs)
+at_end t name None s p q fs = at_never _ (here (key_note q).span) (key_note q).span
+at_end t name (Some o) s p q fs = by_taken (not o.many && is_taken p s.got.values)
   where
-    by_taken : (b : Bool) → At (key_note q).span (cond b (refused (duplicate_field (key_text q) (taken_span p s.got.values)) (path t fs) (here (key_note q).span)) (await_end t s.depth o.part q (field s (entered p q) ∷ fs) (key_note q).span))
+    by_taken : (b : Bool) → At (key_note q).span (cond b (refused (duplicate_field name (taken_span p s.got.values)) (path t fs) (here (key_note q).span)) (await_end t s.depth o.part q (field s (entered p q) ∷ fs) (key_note q).span))
     by_taken true = at_refused _ (path t fs) (key_note q).span
     by_taken false = at_part (key_note q).span t s.depth o.part q (field s (entered p q) ∷ fs)
 
@@ -190,13 +190,18 @@ at_end t (Some o) s p q fs = by_taken (not o.many && is_taken p s.got.values)
 at_struct_key : (t : Terms) (s : StructPart) (fs : Frames) (q : Key) → At (key_note q).span (field_step t s fs q)
 at_struct_key t s fs q = by_allowed (is_allowed (plan_in t s) s.got.count q)
   where
-    by_lead : (o : Option Path) → At (key_note q).span (lead_step o t s q fs)
+    by_lead : (o : Option Path) → At (key_note q).span (lead_step (key_label (plan_in t s) s.got.count q) o t s q fs)
     by_lead None = at_ok _ _
-    by_lead (Some p) = at_end t (leaf_at t.setting.registry s.choice s.layout p) (past_key s q) p q fs
+    by_lead (Some p) = at_end t (key_label (plan_in t s) s.got.count q) (leaf_at t.setting.registry s.choice s.layout p) (past_key s q) p q fs
 
-    by_allowed : (b : Bool) → At (key_note q).span (cond b (lead_step (leads (plan_in t s) s.got.count q) t s q fs) (unexpected (path t fs) (here (key_note q).span)))
+    by_allowed : (b : Bool) → At (key_note q).span (cond b (lead_step (key_label (plan_in t s) s.got.count q) (leads (plan_in t s) s.got.count q) t s q fs) (key_fault q (path t fs) (here (key_note q).span)))
     by_allowed true = by_lead (leads (plan_in t s) s.got.count q)
-    by_allowed false = at_refused _ (path t fs) (key_note q).span
+    by_allowed false = by_key q
+      where
+        by_key : (k : Key) → At (key_note q).span (key_fault {A = Status} k (path t fs) (here (key_note q).span))
+        by_key (named u m note) = at_refused _ (path t fs) (key_note q).span
+        by_key (nameless m note) = at_refused _ (path t fs) (key_note q).span
+        by_key (ordered note) = at_refused _ (path t fs) (key_note q).span
 
 at_node_key : (t : Terms) (p : NodePart) (fs : Frames) (q : Key) → At (key_note q).span (node_step t p fs q)
 at_node_key t p fs q = by_argument (is_argument q)

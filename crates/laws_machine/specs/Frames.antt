@@ -1,6 +1,5 @@
 -- What is open while a value is read, one frame in another.
 use Rattle.std.specs.Prelude.{ℕ, List, [], ◌∷◌, ◌++◌, length, Bool}
-use Rattle.semantics_lines.specs.Texts.{Phrase}
 use Rattle.semantics_lines.specs.Trees.{Tree}
 use Rattle.semantics_lines.specs.Events.{Span}
 use Rattle.semantics_lines.specs.Faults.{Step, index_step, variant_step}
@@ -43,10 +42,9 @@ pub record StructPart : Type 0 where
   pub depth : ℕ
   pub got : Got
 
--- the path that a key leads to whose value comes, the text of the key with whether it is borrowed, and where it stands
+-- the path that a key leads to whose value comes, and where the key stands
 pub record Entered : Type 0 where
   pub path : Path
-  pub name : Phrase
   pub span : Span
 
 -- what was told of a result so far

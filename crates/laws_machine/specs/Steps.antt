@@ -1,12 +1,12 @@
 -- What one event does to what is open.
-use Rattle.std.specs.Prelude.{suc, ◌+◌, List, [], ◌∷◌, length, drop, slice_get, Option, Some, None, Result, Ok, Bool, true, false, cond, not, ◌&&◌}
+use Rattle.std.specs.Prelude.{ℕ, suc, ◌+◌, List, [], ◌∷◌, length, drop, slice_get, Option, Some, None, Result, Ok, Bool, true, false, cond, not, ◌&&◌}
 use Rattle.semantics_lines.specs.Trees.{Tree, structure, trees_of}
 use Rattle.semantics_lines.specs.Shapes.{Field}
 use Rattle.semantics_lines.specs.Events.{Span, Key, key_note, scalar, key, of_struct, Event, leaf, stop, span_of}
 use Rattle.semantics_lines.specs.Faults.{too_many_elements, duplicate_field, reflect, Fault}
 use Rattle.semantics.specs.Places.{Path}
-use Rattle.semantics.specs.Keys.{Plan, plan_of, leads, is_allowed}
-use Rattle.semantics.specs.Reading.{from_events, key_phrase, key_text, is_argument, is_key}
+use Rattle.semantics.specs.Keys.{Plan, plan_of, leads, key_label, is_allowed}
+use Rattle.semantics.specs.Reading.{from_events, key_text, is_argument, is_key}
 use Rattle.semantics.specs.Seen.{ends_sequence}
 use Rattle.semantics.specs.Typed.{has_room}
 use Rattle.semantics.specs.Typed.{has_length}
@@ -14,7 +14,7 @@ use Rattle.laws_reading.specs.Input.{Input, ◌>>=◌, refused, unexpected, neve
 use Rattle.laws_reading.specs.Skips.{Opened, skip_of}
 use Rattle.semantics.specs.Ends.{End, leaf_at}
 use Rattle.semantics.specs.Places.{is_taken}
-use Rattle.laws_reading.specs.Structs.{taken_span, gathered}
+use Rattle.laws_reading.specs.Structs.{taken_span, key_fault, gathered}
 use Rattle.laws_reading.specs.Nodes.{set_at, node_value}
 use Rattle.laws_reading.specs.Options.{side_of, side_in, outcome}
 use Rattle.laws_reading.specs.Sequences.{other_length, items_end}
@@ -79,24 +79,24 @@ plan_in t s = plan_of t.setting.registry s.choice s.deny s.layout
 
 -- a key that leads to a path
 abbrev pub entered : Path → Key → Entered
-entered p q = record { path = p; name = key_phrase q; span = (key_note q).span }
+entered p q = record { path = p; span = (key_note q).span }
 
--- the value of a key that leads to this end
-abbrev pub end_step : Option End → Terms → StructPart → Path → Key → Frames → Steps
-end_step None t s p q fs = never (path t fs) (here (key_note q).span)
-end_step (Some o) t s p q fs =
+-- the value of a key of this name that leads to this end
+abbrev pub end_step : List ℕ → Option End → Terms → StructPart → Path → Key → Frames → Steps
+end_step name None t s p q fs = never (path t fs) (here (key_note q).span)
+end_step name (Some o) t s p q fs =
     cond (not o.many && is_taken p s.got.values)
-    (refused (duplicate_field (key_text q) (taken_span p s.got.values)) (path t fs) (here (key_note q).span))
+    (refused (duplicate_field name (taken_span p s.got.values)) (path t fs) (here (key_note q).span))
     (await_end t s.depth o.part q (field s (entered p q) ∷ fs) (key_note q).span)
 
--- the value of a key that leads there, or that is passed over
-abbrev pub lead_step : Option Path → Terms → StructPart → Key → Frames → Steps
-lead_step None t s q fs = Ok (going (passing [] ∷ object (past_key s q) ∷ fs))
-lead_step (Some p) t s q fs = end_step (leaf_at t.setting.registry s.choice s.layout p) t (past_key s q) p q fs
+-- the value of a key of this name that leads there, or that is passed over
+abbrev pub lead_step : List ℕ → Option Path → Terms → StructPart → Key → Frames → Steps
+lead_step name None t s q fs = Ok (going (passing [] ∷ object (past_key s q) ∷ fs))
+lead_step name (Some p) t s q fs = end_step name (leaf_at t.setting.registry s.choice s.layout p) t (past_key s q) p q fs
 
 -- a key of a struct
 abbrev pub field_step : Terms → StructPart → Frames → Key → Steps
-field_step t s fs q = cond (is_allowed (plan_in t s) s.got.count q) (lead_step (leads (plan_in t s) s.got.count q) t s q fs) (unexpected (path t fs) (here (key_note q).span))
+field_step t s fs q = cond (is_allowed (plan_in t s) s.got.count q) (lead_step (key_label (plan_in t s) s.got.count q) (leads (plan_in t s) s.got.count q) t s q fs) (key_fault q (path t fs) (here (key_note q).span))
 
 -- the end of a struct
 abbrev pub struct_end : Terms → StructPart → Frames → Span → Result Tree Fault

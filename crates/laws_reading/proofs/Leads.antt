@@ -1,11 +1,14 @@
 -- Each key leads to a part.
-use Rattle.std.proofs.Common.{◌≡◌, ℕ, zero, suc, List, [], ◌∷◌, ◌++◌, map, length, Option, Some, None, Bool, true, false, cond, not, ◌&&◌, bytes_eq, option_map, refl, sym, ap, ◌∙◌, arith}
-use Rattle.std.specs.Prelude.{⊤}
-use Rattle.semantics_lines.specs.Shapes.{Field, Definition, Registry, definition_at}
+use Rattle.std.proofs.Common.{◌≡◌, ℕ, zero, suc, ◌<◌, List, [], ◌∷◌, ◌++◌, map, length, slice_get, Option, Some, None, Bool, true, false, cond, not, ◌&&◌, ◌||◌, bytes_eq, option_map, refl, sym, ap, ◌∙◌, subst, arith}
+use Rattle.std.specs.Prelude.{⊤, nat_lt}
+use Rattle.std.specs.List.{list_any}
+use Rattle.std.proofs.lemmas.Bool.{ltb-true}
+use Rattle.std.proofs.lemmas.List.{length-map}
+use Rattle.semantics_lines.specs.Shapes.{Field, effective_name, Definition, Registry, definition_at}
 use Rattle.semantics_lines.specs.Events.{Key, named, nameless, ordered}
 use Rattle.semantics.specs.Places.{Path, below, under, is_end, Choice}
-use Rattle.semantics.specs.Keys.{Declared, alias_key, own_keys, Layout, keys_by, flat_keys, keys, path_of, or_path, stray_by, flat_stray, plan_of, leads, is_allowed}
-use Rattle.semantics.specs.Ends.{End, one_shape, leaf_end, FlatLeaf, leaf_flat, leaf_at}
+use Rattle.semantics.specs.Keys.{Declared, alias_key, own_keys, Layout, keys_by, flat_keys, keys, path_of, or_path, stray_by, flat_stray, plan_of, takes_order, leads, is_allowed}
+use Rattle.semantics.specs.Ends.{End, one_shape, leaf_end, FlatLeaf, leaf_flat, leaf_found, leaf_at}
 use Rattle.laws_reading.proofs.Ends.{Ends, Covers, covers_all}
 
 -- each declared key leads to a part
@@ -104,6 +107,36 @@ module _ (g : Registry) (whole : Bool) where
   flat_strays zero d c p e = absurd cc
   flat_strays (suc n) d c p e = absurd cc
 
+-- a field of a place that is there, where none is flattened
+plain_field : (fs : List Field) (k : ℕ) → list_any (λ f. f.flattened) fs ≡ false → k < length fs → (f : Field) × (slice_get fs k ≡ Some f) × (f.flattened ≡ false)
+plain_field [] k plain few = absurd (omega (arith, few))
+plain_field (f ∷ fs) k plain few = by_first f.flattened refl plain (plain_field fs)
+  where
+    Others : Type 0
+    Others = (k : ℕ) → list_any (λ f. f.flattened) fs ≡ false → k < length fs → (e : Field) × (slice_get fs k ≡ Some e) × (e.flattened ≡ false)
+
+    by_place : (k : ℕ) → k < suc (length fs) → f.flattened ≡ false → list_any (λ f. f.flattened) fs ≡ false → Others → (e : Field) × (slice_get (f ∷ fs) k ≡ Some e) × (e.flattened ≡ false)
+    by_place zero few first none others = (f, refl, first)
+    by_place (suc k) few first none others = others k none (omega (arith, few))
+
+    by_first : (b : Bool) → f.flattened ≡ b → (b || list_any (λ f. f.flattened) fs) ≡ false → Others → (e : Field) × (slice_get (f ∷ fs) k ≡ Some e) × (e.flattened ≡ false)
+    by_first true first none others = absurd cc
+    by_first false first none others = by_place k few first none others
+
+-- a key by order that is allowed leads to the field of its place
+order_leads : (g : Registry) (c : Choice) (l : Layout) (n : ℕ) → (takes_order l && nat_lt n (length (map effective_name l.fields))) ≡ true → (s : End) × (leaf_at g c l (n ∷ []) ≡ Some s)
+order_leads g c l n allowed = by_order (list_any (λ f. f.flattened) l.fields) refl allowed
+  where
+    by_order : (b : Bool) → list_any (λ f. f.flattened) l.fields ≡ b → (not b && nat_lt n (length (map effective_name l.fields))) ≡ true → (s : End) × (leaf_at g c l (n ∷ []) ≡ Some s)
+    by_order true some allowed = absurd cc
+    by_order false none allowed =
+        let few : n < length l.fields = subst (λ k. n < k) (length-map l.fields effective_name) (ltb-true n (length (map effective_name l.fields)) allowed) in
+        let (f, at, plain) = plain_field l.fields n none few in (
+          one_shape f.shape,
+          ap (λ o. leaf_found (leaf_flat g l.whole (length g)) g l.whole (below n c) o []) at
+          ∙ ap (λ b. cond (b && not (l.whole && true)) (leaf_flat g l.whole (length g) (definition_at g f.shape) (below n c) []) (Some (one_shape f.shape))) plain,
+        )
+
 -- a key that is allowed leads to a part
 pub key_leads : (g : Registry) (c : Choice) (deny : Bool) (l : Layout) (n : ℕ) (q : Key) (p : Path) → leads (plan_of g c deny l) n q ≡ Some p → is_allowed (plan_of g c deny l) n q ≡ true → (s : End) × (leaf_at g c l p ≡ Some s)
 key_leads g c deny l n (named t m note) p e allowed = by_key (path_of (keys g l c) t.bytes) refl e
@@ -114,4 +147,7 @@ key_leads g c deny l n (named t m note) p e allowed = by_key (path_of (keys g l 
         let same : q ≡ p = cc in
         path_leads (leaf_at g c l) (keys g l c) t.bytes p (fields_lead g l.whole (flat_keys g l.whole (length g)) (leaf_flat g l.whole (length g)) (flat_leads g l.whole (length g)) c (leaf_at g c l) 0 l.fields (covers_all g l.whole (leaf_flat g l.whole (length g)) c l.fields)) (is ∙ ap (λ z. Some z) same)
 key_leads g c deny l n (nameless m note) p e allowed = absurd cc
-key_leads g c deny l n (ordered note) p e allowed = absurd cc
+key_leads g c deny l n (ordered note) p e allowed =
+    let (s, there) = order_leads g c l n allowed in
+    let same : n ∷ [] ≡ p = cc in
+    (s, ap (leaf_at g c l) (sym same) ∙ there)

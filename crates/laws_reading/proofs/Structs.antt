@@ -4,17 +4,17 @@ use Rattle.std.specs.List.{cons_option}
 use Rattle.std.proofs.lemmas.List.{append-nil}
 use Rattle.semantics_lines.specs.Trees.{Tree, structure, Trees}
 use Rattle.semantics_lines.specs.Shapes.{Registry}
-use Rattle.semantics_lines.specs.Events.{Span, Key, Event}
+use Rattle.semantics_lines.specs.Events.{Span, Key, named, nameless, ordered, Event}
 use Rattle.semantics_lines.specs.Faults.{Step, duplicate_field, Fault, Ending}
 use Rattle.semantics.specs.Runs.{Run, run_events, Entry}
 use Rattle.semantics.specs.Places.{Path, At, Choice}
-use Rattle.semantics.specs.Keys.{Layout, plan_of, leads, after_key, with_entry, placed, is_allowed, are_allowed}
-use Rattle.semantics.specs.Reading.{Source, Reader, Part, of_shape, of_variant, of_tag, of_entry, PartReader, part_value, source_of, key_text, parts_by, read_layout, read_entries, read_object}
+use Rattle.semantics.specs.Keys.{Layout, plan_of, leads, key_label, after_key, with_entry, placed, is_allowed, are_allowed}
+use Rattle.semantics.specs.Reading.{Source, Reader, Part, of_shape, of_variant, of_tag, of_entry, PartReader, part_value, source_of, parts_by, read_layout, read_entries, read_object}
 use Rattle.semantics.specs.Seen.{last_span}
-use Rattle.laws_reading.specs.Input.{Input, feed, ◌>>=◌, Reads, refused, unexpected}
+use Rattle.laws_reading.specs.Input.{Input, feed, ◌>>=◌, Reads, refused}
 use Rattle.semantics.specs.Ends.{End, leaf_at, steps_at}
 use Rattle.semantics.specs.Places.{is_taken}
-use Rattle.laws_reading.specs.Structs.{ReadsPart, ReadsEnd, end_at, Told, Got, nothing_got, taken_span, told_at, got_value, at_end_of, passed_over, at_path, field_at, kept, as_structure, gathered_trees, gathered, struct_at}
+use Rattle.laws_reading.specs.Structs.{ReadsPart, ReadsEnd, end_at, Told, Got, nothing_got, taken_span, told_at, got_value, at_end_of, passed_over, at_path, key_fault, field_at, kept, as_structure, gathered_trees, gathered, struct_at}
 use Rattle.laws_reading.specs.Objects.{Takes, object_at}
 use Rattle.laws_reading.specs.Skips.{skip_at}
 use Rattle.laws_reading.specs.Laws.{Sound, Complete}
@@ -41,6 +41,12 @@ built_both (Ok v) o same w = (λ e. ap (option_map structure) ((same v).0 refl) 
     back o here e = let is = here refl in cc
 built_both (Err f) None same w = (λ e. absurd cc, λ e. absurd cc)
 built_both (Err f) (Some v) same w = let none = (same v).1 refl in absurd cc
+
+-- a key that isn't allowed gives nothing
+no_key : {A B : Type 0} (q : Key) (path : List Step) (input : Input) (x : A) → key_fault {A = A} q path input ≡ Ok x → B
+no_key (named t m note) path input x e = absurd cc
+no_key (nameless m note) path input x e = absurd cc
+no_key (ordered note) path input x e = absurd cc
 
 -- what stands at the ends of paths, where the values of shapes are read so
 pub ends_sound : (g : Registry) (rd : Reader) (at : ReadsPart) → ((s : ℕ) (source : Source) → Sound (rd s source) (at s source)) → (p : Part) (q : Key) → Sound (part_value g rd p q) (end_at at p q)
@@ -72,7 +78,7 @@ module _ (g : Registry) (rd : PartReader) (read : ReadsEnd) (c : Choice) (deny :
     lead = leads (plan_of g c deny l) (after_keys 0 es) q
 
     abbrev field_on : ℕ → List (At Told) → Reads Got
-    field_on n got path input = cond (is_allowed (plan_of g c deny l) n q) (at_path (leaf_at g c l) (steps_at g c l) (leads (plan_of g c deny l) n q) read q (after_key n q) got path input) (unexpected path input)
+    field_on n got path input = cond (is_allowed (plan_of g c deny l) n q) (at_path (key_label (plan_of g c deny l) n q) (leaf_at g c l) (steps_at g c l) (leads (plan_of g c deny l) n q) read q (after_key n q) got path input) (key_fault q path input)
 
     next : (r : Run) (got : List (At Told)) → are_allowed (plan_of g c deny l) 0 es ≡ true → is_allowed (plan_of g c deny l) n q ≡ true → Kept (leaf_at g c l) (parts_by rd) (placed (plan_of g c deny l) 0 (es ++ (entry q r ∷ []))) got
         → Keeps (es ++ (entry q r ∷ [])) (record { count = after_key n q; values = got })
@@ -110,12 +116,12 @@ module _ (g : Registry) (rd : PartReader) (read : ReadsEnd) (c : Choice) (deny :
               subst (λ (y : Got × Input). Keeps (es ++ (entry q r ∷ [])) y.0) same (next r (got ++ (told_at p q v.0 ∷ [])) all one (put_in r got p s v.0 is end reads h)),
             )
 
-        sound_end : is_allowed (plan_of g c deny l) n q ≡ true → (p : Path) (o : Option End) → lead ≡ Some p → leaf_at g c l p ≡ o → at_end_of o (steps_at g c l p) read p q (after_key n q) got path (feed es' ending last) ≡ Ok (s', after) → Taken
+        sound_end : is_allowed (plan_of g c deny l) n q ≡ true → (p : Path) (o : Option End) → lead ≡ Some p → leaf_at g c l p ≡ o → at_end_of (key_label (plan_of g c deny l) n q) o (steps_at g c l p) read p q (after_key n q) got path (feed es' ending last) ≡ Ok (s', after) → Taken
         sound_end one p None is end e = absurd cc
         sound_end one p (Some s) is end e = by_test (not s.many && is_taken p got) e
           where
             by_test : (b : Bool)
-                → cond b (refused (duplicate_field (key_text q) (taken_span p got)) path (feed es' ending last)) (read s.part q (path ++ steps_at g c l p) (feed es' ending last) >>= got_value (after_key n q) got p q) ≡ Ok (s', after) → Taken
+                → cond b (refused (duplicate_field (key_label (plan_of g c deny l) n q) (taken_span p got)) path (feed es' ending last)) (read s.part q (path ++ steps_at g c l p) (feed es' ending last) >>= got_value (after_key n q) got p q) ≡ Ok (s', after) → Taken
             by_test true e = absurd cc
             by_test false e = sound_value one p s is end e
 
@@ -131,7 +137,7 @@ module _ (g : Registry) (rd : PartReader) (read : ReadsEnd) (c : Choice) (deny :
               subst (λ (y : Got × Input). Keeps (es ++ (entry q r ∷ [])) y.0) same (next r got all one (put_nowhere r got is h)),
             )
 
-        sound_path : is_allowed (plan_of g c deny l) n q ≡ true → (o : Option Path) → lead ≡ o → at_path (leaf_at g c l) (steps_at g c l) o read q (after_key n q) got path (feed es' ending last) ≡ Ok (s', after) → Taken
+        sound_path : is_allowed (plan_of g c deny l) n q ≡ true → (o : Option Path) → lead ≡ o → at_path (key_label (plan_of g c deny l) n q) (leaf_at g c l) (steps_at g c l) o read q (after_key n q) got path (feed es' ending last) ≡ Ok (s', after) → Taken
         sound_path one None is e = sound_nowhere one is e
         sound_path one (Some p) is e = sound_end one p (leaf_at g c l p) is refl e
 
@@ -139,9 +145,9 @@ module _ (g : Registry) (rd : PartReader) (read : ReadsEnd) (c : Choice) (deny :
         sound_field e = by_test (is_allowed (plan_of g c deny l) n q) refl e
           where
             by_test : (b : Bool) → is_allowed (plan_of g c deny l) n q ≡ b
-                → cond b (at_path (leaf_at g c l) (steps_at g c l) lead read q (after_key n q) got path (feed es' ending last)) (unexpected path (feed es' ending last)) ≡ Ok (s', after) → Taken
+                → cond b (at_path (key_label (plan_of g c deny l) n q) (leaf_at g c l) (steps_at g c l) lead read q (after_key n q) got path (feed es' ending last)) (key_fault q path (feed es' ending last)) ≡ Ok (s', after) → Taken
             by_test true one e = sound_path one lead refl e
-            by_test false one e = absurd cc
+            by_test false one e = no_key q path (feed es' ending last) (s', after) e
 
       -- complete
       module _ (complete : (p : Part) (q : Key) → Complete (rd p q) (read p q)) (r : Run) (rest : List Event) where
@@ -169,20 +175,20 @@ module _ (g : Registry) (rd : PartReader) (read : ReadsEnd) (c : Choice) (deny :
             inr (record { count = after_key n q; values = got ++ (told_at p q v ∷ []) }, ap (λ z. z >>= got_value (after_key n q) got p q) told, next r (got ++ (told_at p q v ∷ [])) all one (put_in r got p s v is end reads h))
 
         of_end : is_allowed (plan_of g c deny l) n q ≡ true → (p : Path) (s : End) → lead ≡ Some p → leaf_at g c l p ≡ Some s → (b : Bool) → (not s.many && is_taken p got) ≡ b
-            → Answer (cond b (refused (duplicate_field (key_text q) (taken_span p got)) path input) (read s.part q (path ++ steps_at g c l p) input >>= got_value (after_key n q) got p q))
+            → Answer (cond b (refused (duplicate_field (key_label (plan_of g c deny l) n q) (taken_span p got)) path input) (read s.part q (path ++ steps_at g c l p) input >>= got_value (after_key n q) got p q))
         of_end one p s is end true taken = inl (none_read p s is end (inr (ap (λ b. not s.many && b) (taken_kept (leaf_at g c l) (parts_by rd) p (placed (plan_of g c deny l) 0 es) got h) ∙ taken)))
         of_end one p s is end false taken = of_value one p s is end (rd s.part q r) refl
 
-        of_path : is_allowed (plan_of g c deny l) n q ≡ true → (o : Option Path) → lead ≡ o → Answer (at_path (leaf_at g c l) (steps_at g c l) o read q (after_key n q) got path input)
+        of_path : is_allowed (plan_of g c deny l) n q ≡ true → (o : Option Path) → lead ≡ o → Answer (at_path (key_label (plan_of g c deny l) n q) (leaf_at g c l) (steps_at g c l) o read q (after_key n q) got path input)
         of_path one None is = inr (record { count = after_key n q; values = got }, ap (λ z. z >>= passed_over (after_key n q) got) (skip_complete path r rest ending last), next r got all one (put_nowhere r got is h))
         of_path one (Some p) is =
             let (s, end) = key_leads g c deny l n q p is one in
-            subst (λ o. Answer (at_end_of o (steps_at g c l p) read p q (after_key n q) got path input)) (sym end) (of_end one p s is end (not s.many && is_taken p got) refl)
+            subst (λ o. Answer (at_end_of (key_label (plan_of g c deny l) n q) o (steps_at g c l p) read p q (after_key n q) got path input)) (sym end) (of_end one p s is end (not s.many && is_taken p got) refl)
 
         of_field : Answer (field_on n got path input)
         of_field = by_test (is_allowed (plan_of g c deny l) n q) refl
           where
-            by_test : (b : Bool) → is_allowed (plan_of g c deny l) n q ≡ b → Answer (cond b (at_path (leaf_at g c l) (steps_at g c l) lead read q (after_key n q) got path input) (unexpected path input))
+            by_test : (b : Bool) → is_allowed (plan_of g c deny l) n q ≡ b → Answer (cond b (at_path (key_label (plan_of g c deny l) n q) (leaf_at g c l) (steps_at g c l) lead read q (after_key n q) got path input) (key_fault q path input))
             by_test true one = of_path one lead refl
             by_test false one = inl (λ l'. ap (λ b. cond b (read_layout g (parts_by rd) c l (placed (plan_of g c deny l) 0 (es ++ (entry q r ∷ l')))) None) (not_allowed (plan_of g c deny l) 0 es (entry q r) l' one))
 

@@ -2,12 +2,12 @@
 use Rattle.std.specs.Prelude.{ℕ, zero, suc, List, [], ◌∷◌, ◌++◌, length, Option, Some, None, Result, Ok, Bool, cond, not, ◌&&◌}
 use Rattle.semantics_lines.specs.Trees.{Tree, structure, Trees, no_trees, tree}
 use Rattle.semantics_lines.specs.Shapes.{Field, Definition, Registry, definition_at}
-use Rattle.semantics_lines.specs.Events.{Span, Key, key_note}
-use Rattle.semantics_lines.specs.Faults.{Step, field_step, missing_field, duplicate_field, Fault}
+use Rattle.semantics_lines.specs.Events.{Span, Key, named, nameless, ordered, key_note}
+use Rattle.semantics_lines.specs.Faults.{Step, field_step, unknown_field, missing_field, duplicate_field, Fault}
 use Rattle.semantics.specs.Labels.{label_at}
 use Rattle.semantics.specs.Places.{Path, At, below, is_end, has_whole, is_taken, Choice}
-use Rattle.semantics.specs.Keys.{Layout, Plan, plan_of, leads, after_key, is_allowed}
-use Rattle.semantics.specs.Reading.{Source, Part, of_shape, of_variant, of_tag, of_entry, Parts, key_text, source_of, fill, in_parts}
+use Rattle.semantics.specs.Keys.{Layout, Plan, plan_of, leads, key_label, after_key, is_allowed}
+use Rattle.semantics.specs.Reading.{Source, Part, of_shape, of_variant, of_tag, of_entry, Parts, source_of, fill, in_parts}
 use Rattle.semantics.specs.Ends.{End, leaf_at, steps_at}
 use Rattle.laws_reading.specs.Input.{Input, ◌>>=◌, Reads, refused, unexpected, never}
 use Rattle.laws_reading.specs.Objects.{Takes, Finish, object_at}
@@ -64,25 +64,32 @@ told_at p q v = record { path = p; item = record { span = (key_note q).span; val
 abbrev pub got_value : ℕ → List (At Told) → Path → Key → Tree × Input → Result (Got × Input) Fault
 got_value n got p q v = Ok (record { count = n; values = got ++ (told_at p q v.0 ∷ []) }, v.1)
 
-abbrev pub at_end_of : Option End → List Step → ReadsEnd → Path → Key → ℕ → List (At Told) → Reads Got
-at_end_of None steps read p q n got path input = never path input
-at_end_of (Some e) steps read p q n got path input =
+-- the value of a key of this name, which leads to this end
+abbrev pub at_end_of : List ℕ → Option End → List Step → ReadsEnd → Path → Key → ℕ → List (At Told) → Reads Got
+at_end_of name None steps read p q n got path input = never path input
+at_end_of name (Some e) steps read p q n got path input =
     cond (not e.many && is_taken p got)
-    (refused (duplicate_field (key_text q) (taken_span p got)) path input)
+    (refused (duplicate_field name (taken_span p got)) path input)
     (read e.part q (path ++ steps) input >>= got_value n got p q)
 
 abbrev pub passed_over : ℕ → List (At Told) → Opened × Input → Result (Got × Input) Fault
 passed_over n got x = Ok (record { count = n; values = got }, x.1)
 
--- the value behind a key that leads there, or nowhere
-abbrev pub at_path : (Path → Option End) → (Path → List Step) → Option Path → ReadsEnd → Key → ℕ → List (At Told) → Reads Got
-at_path ends steps None read q n got path input = skip_at path input >>= passed_over n got
-at_path ends steps (Some p) read q n got path input = at_end_of (ends p) (steps p) read p q n got path input
+-- the value behind a key of this name that leads there, or nowhere
+abbrev pub at_path : List ℕ → (Path → Option End) → (Path → List Step) → Option Path → ReadsEnd → Key → ℕ → List (At Told) → Reads Got
+at_path name ends steps None read q n got path input = skip_at path input >>= passed_over n got
+at_path name ends steps (Some p) read q n got path input = at_end_of name (ends p) (steps p) read p q n got path input
+
+-- a key that isn't allowed: unknown, or one too many by order
+abbrev pub key_fault : {A : Type 0} → Key → List Step → Input → Result A Fault
+key_fault (named t m n) path input = refused (unknown_field t.bytes) path input
+key_fault (nameless m n) path input = unexpected path input
+key_fault (ordered n) path input = unexpected path input
 
 -- a key, and the value behind it
 abbrev pub field_at : (Path → Option End) → (Path → List Step) → Plan → ReadsEnd → Takes Got
 field_at ends steps plan read q s path input =
-    cond (is_allowed plan s.count q) (at_path ends steps (leads plan s.count q) read q (after_key s.count q) s.values path input) (unexpected path input)
+    cond (is_allowed plan s.count q) (at_path (key_label plan s.count q) ends steps (leads plan s.count q) read q (after_key s.count q) s.values path input) (key_fault q path input)
 
 -- what was read stands for itself
 abbrev pub kept : Parts Told

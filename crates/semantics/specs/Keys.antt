@@ -1,6 +1,6 @@
 -- The keys that the object of a struct may have, and where each leads.
-use Rattle.std.specs.Prelude.{ℕ, zero, suc, nat_lt, List, [], ◌∷◌, ◌++◌, map, Bool, true, false, cond, ◌&&◌, ◌||◌, not, length, Option, Some, None, option_map, bytes_eq, is_some}
-use Rattle.std.specs.List.{cons_option}
+use Rattle.std.specs.Prelude.{ℕ, zero, suc, nat_lt, List, [], ◌∷◌, ◌++◌, map, Bool, true, false, cond, ◌&&◌, ◌||◌, not, length, Option, Some, None, option_map, unwrap_or, slice_get, bytes_eq, is_some}
+use Rattle.std.specs.List.{list_any, cons_option}
 use Rattle.semantics_lines.specs.Shapes.{Field, effective_name, Definition, Registry, definition_at}
 use Rattle.semantics_lines.specs.Events.{Key, named, nameless, ordered}
 use Rattle.semantics.specs.Runs.{Entry}
@@ -77,14 +77,14 @@ pub record Plan : Type 0 where
   pub stray : Option Path
   -- whether an unknown key is refused
   pub deny : Bool
-  -- how many fields there are
-  pub fields : ℕ
+  -- the effective names of its fields, by their places
+  pub names : List (List ℕ)
   -- whether a key may name the next field by its order
   pub by_order : Bool
 
--- Whether keys may name the fields of such an object by their order. That isn't built yet.
+-- Keys may name the fields of such an object by their order where none is flattened.
 abbrev pub takes_order : Layout → Bool
-takes_order l = false
+takes_order l = not (list_any (λ f. f.flattened) l.fields)
 
 -- what is asked of the keys of an object, under a choice of variants
 abbrev pub plan_of : Registry → Choice → Bool → Layout → Plan
@@ -92,7 +92,7 @@ plan_of g c deny l = record {
   declared = keys g l c;
   stray = stray_by g (flat_stray g (length g)) c 0 l.fields;
   deny = deny;
-  fields = length l.fields;
+  names = map effective_name l.fields;
   by_order = takes_order l;
 }
 
@@ -101,6 +101,12 @@ abbrev pub leads : Plan → ℕ → Key → Option Path
 leads plan k (named t m n) = or_path (path_of plan.declared t.bytes) plan.stray
 leads plan k (nameless m n) = None
 leads plan k (ordered n) = Some (k ∷ [])
+
+-- what a key is called where it stands again: its text, or the effective name of the field that comes next by order
+abbrev pub key_label : Plan → ℕ → Key → List ℕ
+key_label plan k (named t m n) = t.bytes
+key_label plan k (nameless m n) = []
+key_label plan k (ordered n) = unwrap_or (slice_get plan.names k) []
 
 -- how many fields were named by their order, counting this key
 abbrev pub after_key : ℕ → Key → ℕ
@@ -132,7 +138,7 @@ placed plan k (e ∷ es) = cons_option (with_entry e (leads plan k e.key)) (plac
 abbrev pub is_allowed : Plan → ℕ → Key → Bool
 is_allowed plan k (named t m n) = is_some (leads plan k (named t m n)) || not plan.deny
 is_allowed plan k (nameless m n) = true
-is_allowed plan k (ordered n) = plan.by_order && nat_lt k plan.fields
+is_allowed plan k (ordered n) = plan.by_order && nat_lt k (length plan.names)
 
 -- each key is allowed, the first after k fields that were named by their order
 abbrev pub are_allowed : Plan → ℕ → List Entry → Bool

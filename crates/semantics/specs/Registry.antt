@@ -1,10 +1,10 @@
 -- The checked registry: the rules that its shapes keep, each with the name of the fault where it is broken.
 use Rattle.std.specs.Prelude.{◌≡◌, ℕ, zero, suc, ◌<◌, ◌≤◌, ◌==◌, nat_lt, List, [], ◌∷◌, length, map, take, Bool, true, false, ◌||◌, ◌&&◌, not, if◌then◌else◌, Option, Some, None, option_and_then, is_some, unwrap_or, slice_get, bytes_eq, IsTrue}
-use Rattle.std.specs.List.{list_any, list_all}
+use Rattle.std.specs.List.{list_any, list_all, cons_option}
 use Rattle.std.specs.Option.{option_map_or}
 use Rattle.std.specs.Fmt.{decimal}
 use Rattle.std.specs.Str.{is_utf8}
-use Rattle.semantics_lines.specs.Shapes.{StructKind, is_tuple, is_unit, SkipRule, skip_never, Field, StructShape, Variant, EnumForm, internal, adjacent, Definition, scalar_shape, option_shape, result_shape, list_shape, array_shape, set_shape, map_shape, struct_shape, enum_shape, transparent_shape, Shape, Draft, Registry}
+use Rattle.semantics_lines.specs.Shapes.{StructKind, is_tuple, is_unit, SkipRule, skip_never, Field, effective_name, StructShape, Variant, EnumForm, internal, adjacent, Definition, scalar_shape, option_shape, result_shape, list_shape, array_shape, set_shape, map_shape, struct_shape, enum_shape, transparent_shape, Shape, Draft, Registry}
 use Rattle.semantics_lines.specs.Scalars.{scalar_drafts}
 use Rattle.semantics_lines.specs.ShapeFaults.{ShapeFaultKind, undefined, repeated_shape_name, repeated_name, bad_flatten, step_cycle, bad_enum, too_many, not_built, ShapeFault, shape_limit}
 
@@ -56,26 +56,45 @@ is_undefined count (Some d) = dangles count d
 abbrev pub repeats_shape_name : List Draft → ℕ → Draft → Bool
 repeats_shape_name ds i d = list_any (λ e. bytes_eq e.name d.name) (take i ds)
 
--- RepeatedName: two fields of one struct or variant have one name, or two variants of one enum.
+-- the texts of the keys of these fields: of each its effective name, and then its alias
+abbrev pub key_texts : List Field → List (List ℕ)
+key_texts [] = []
+key_texts (f ∷ fs) = effective_name f ∷ cons_option f.alias (key_texts fs)
+
+-- RepeatedName: two fields of one struct or variant have one name, or two of their keys one text, or two variants of one
+-- enum have one name.
 abbrev pub repeats_field : List Field → Bool
-repeats_field fs = has_pair (λ f e. bytes_eq f.name e.name) fs
+repeats_field fs = has_pair (λ f e. bytes_eq f.name e.name) fs || has_pair bytes_eq (key_texts fs)
 
 -- two variants of one enum have one name
 abbrev pub repeats_variant : Definition → Bool
 repeats_variant (enum_shape form vs) = has_pair (λ v w. bytes_eq v.name w.name) vs
 repeats_variant _ = false
 
--- two fields or two variants of one definition have one name
+-- two fields or two variants of one definition have one name, or two fields one key
 abbrev pub repeats_name : Definition → Bool
 repeats_name d = on_fields repeats_field d || repeats_variant d
 
--- BadFlatten: an item of a tuple has another name than its place, in decimal. That nothing is flattened that can't be
--- is a rule of forms that aren't built.
+-- Attributes of fields that aren't built yet: a declared default, a skip rule, flattening, metadata, a proxy.
+abbrev pub never_skips : SkipRule → Bool
+never_skips skip_never = true
+never_skips _ = false
+
+-- a field has an attribute that isn't built yet
+abbrev pub has_unbuilt_attribute : Field → Bool
+has_unbuilt_attribute f = is_some f.default || (not (never_skips f.skip) || (f.flattened || (is_some f.metadata || is_some f.proxy)))
+
+-- a field has some attribute beside its name and its shape
+abbrev pub has_attribute : Field → Bool
+has_attribute f = is_some f.rename || (is_some f.alias || has_unbuilt_attribute f)
+
+-- BadFlatten: an item of a tuple has another name than its place, in decimal, or has an attribute. That nothing is
+-- flattened that can't be is a rule of forms that aren't built.
 abbrev pub misplaces : ℕ → List Field → Bool
 misplaces k [] = false
-misplaces k (f ∷ fs) = not (bytes_eq f.name (decimal k)) || misplaces (suc k) fs
+misplaces k (f ∷ fs) = (not (bytes_eq f.name (decimal k)) || has_attribute f) || misplaces (suc k) fs
 
--- an item of a tuple is misplaced, in a struct or in a variant
+-- an item of a tuple is misplaced or has an attribute, in a struct or in a variant
 abbrev pub has_bad_item : Definition → Bool
 has_bad_item d = on_fields_of is_tuple (misplaces 0) d
 
@@ -126,18 +145,11 @@ abbrev pub has_too_many : Definition → Bool
 has_too_many d = on_fields is_long d || has_many_variants d
 
 -- NotBuilt: the shape uses a form that isn't built yet, whatever the shapes are that it refers to. Not built are sets,
--- maps and enums, and each attribute of a field, a struct or a shape.
-abbrev pub never_skips : SkipRule → Bool
-never_skips skip_never = true
-never_skips _ = false
-
--- a field has some attribute beside its name and its shape
-abbrev pub has_attribute : Field → Bool
-has_attribute f = is_some f.rename || (is_some f.alias || (is_some f.default || (not (never_skips f.skip) || (f.flattened || (is_some f.metadata || is_some f.proxy)))))
-
--- a struct, or one of its fields, has an attribute
+-- maps and enums, and each attribute of a field but renames and aliases, of a struct but that unknown keys are refused,
+-- and of a shape.
+-- a struct, or one of its fields, has an attribute that isn't built yet
 abbrev pub is_unbuilt_struct : StructShape → Bool
-is_unbuilt_struct s = s.deny || (is_some s.default || (s.container || list_any has_attribute s.fields))
+is_unbuilt_struct s = is_some s.default || (s.container || list_any has_unbuilt_attribute s.fields)
 
 -- a definition is of a form that is not built yet
 abbrev pub is_unbuilt : Definition → Bool

@@ -1,8 +1,9 @@
 -- Why something is refused. Of the events `taken` those were taken, and those `looked` were only looked at.
 use Rattle.std.specs.Prelude.{◌≡◌, ℕ, zero, ◌+◌, ◌<◌, ◌⊎◌, List, [], ◌∷◌, ◌++◌, length, Bool, true, false, not, ◌&&◌, is_some, cond, Option, Some, None, option_and_then, slice_get, Err}
+use Rattle.semantics_lines.specs.Texts.{Phrase}
 use Rattle.semantics_lines.specs.Trees.{Tree}
 use Rattle.semantics_lines.specs.Shapes.{ScalarType, Field, StructShape, Definition, scalar_shape, result_shape, list_shape, array_shape, struct_shape, is_tuple, Registry, definition_at}
-use Rattle.semantics_lines.specs.Events.{Span, Note, Scalar, Key, key_note, ContainerKind, object_kind, of_struct, of_sequence, Event, leaf, scalar, key, start, stop, span_of}
+use Rattle.semantics_lines.specs.Events.{Span, Metadata, Note, Scalar, Key, named, nameless, ordered, key_note, ContainerKind, object_kind, of_struct, of_sequence, Event, leaf, scalar, key, start, stop, span_of}
 use Rattle.semantics_lines.specs.Faults.{ShapeLabel, Step, FaultKind}
 use Rattle.semantics.specs.Registry.{has_some}
 use Rattle.semantics.specs.Typed.{object_of}
@@ -11,11 +12,11 @@ use Rattle.semantics.specs.Runs.{Run, one, run_events, Entry}
 use Rattle.semantics.specs.Setters.{set_scalar}
 use Rattle.semantics.specs.Writing.{Unwritten, write}
 use Rattle.semantics.specs.Places.{Path, Choice, all_below, comes_before}
-use Rattle.semantics.specs.Keys.{ordered_count, is_allowed}
+use Rattle.semantics.specs.Keys.{Plan, ordered_count, is_allowed}
 use Rattle.semantics.specs.Reading.{Setting, from_events, of_shape, key_text, fill, plain_layout, is_argument, is_key, arguments, is_nothing, by_outcome, read, Reads}
 use Rattle.semantics.specs.Ends.{Gap, gap_at}
 use Rattle.semantics.specs.Seen.{ends_sequence}
-use Rattle.semantics_causes.specs.Taken.{struct_plan, leads_behind, placed_in, Place, at_start, in_object, in_sequence, in_passed}
+use Rattle.semantics_causes.specs.Taken.{struct_plan, leads_behind, label_behind, placed_in, Place, at_start, in_object, in_sequence, in_passed}
 use Rattle.semantics_causes.specs.Due.{Part, defined_at, IsObject, IsTuple, IsNamed, IsDue, Spot}
 
 -- No run that these events begin with is read.
@@ -81,9 +82,16 @@ entry_takes (leaf (key q)) = true
 entry_takes (stop of_struct n) = true
 entry_takes _ = false
 
--- a struct takes it behind these entries: a key that is allowed, and the end
+-- A key may stand in a struct where k fields were named by their order: one by order where it is allowed, and each other,
+-- whether it is known or not.
+abbrev pub may_stand : Plan → ℕ → Key → Bool
+may_stand plan k (named t m n) = true
+may_stand plan k (nameless m n) = true
+may_stand plan k (ordered n) = is_allowed plan k (ordered n)
+
+-- a struct takes it behind these entries: a key that may stand there, and the end
 abbrev pub struct_takes : Registry → Choice → StructShape → List Entry → Event → Bool
-struct_takes g c d es (leaf (key q)) = is_allowed (struct_plan g c d) (ordered_count 0 es) q
+struct_takes g c d es (leaf (key q)) = may_stand (struct_plan g c d) (ordered_count 0 es) q
 struct_takes g c d es (stop of_struct n) = true
 struct_takes g c d es _ = false
 
@@ -218,15 +226,33 @@ pub data IsOtherLength (g : Setting) (root : Part) (taken looked : List Event) (
 abbrev pub Collide : Path → Path → Type 0
 Collide p q = (r : Path) × ((q ≡ p ++ r) ⊎ (p ≡ q ++ r))
 
--- Two keys of an object that can't stand together: both lead to one part of a struct, or into one another, or both name the
--- argument of a node.
-pub data Clashes (g : Registry) (what : Option Definition) (c : Choice) (object : Option StructShape) (before : List Entry) (earlier : Entry) (after : List Entry) (again : Key) : Type 0 where
+-- The last event is a key with a name that leads nowhere, in a struct that refuses such keys.
+pub record IsUnknown (g : Setting) (root : Part) (taken looked : List Event) (name : List ℕ) (path : List Step) : Type 0 where
+  pub here : At g root taken looked
+  pub text : Phrase
+  pub metadata : Option Metadata
+  pub note : Note
+  pub event : here.event ≡ leaf (key (named text metadata note))
+  pub struct : StructShape
+  pub object : IsObject g.registry here.spot.due.what struct
+  pub container : ContainerKind
+  pub entries : List Entry
+  pub place : here.spot.place ≡ in_object container entries
+  pub nowhere : leads_behind g.registry here.spot.stands.choice struct entries (named text metadata note) ≡ None
+  pub denies : struct.deny ≡ true
+  pub called : text.bytes ≡ name
+  pub at : here.spot.due.path ≡ path
+
+-- Two keys of an object that can't stand together, the later one of this name: both lead to one part of a struct, or into
+-- one another, or both name the argument of a node.
+pub data Clashes (g : Registry) (what : Option Definition) (c : Choice) (object : Option StructShape) (before : List Entry) (earlier : Entry) (after : List Entry) (again : Key) (name : List ℕ) : Type 0 where
   same_part : (d : StructShape) → object ≡ Some d → (here there : Path)
       → leads_behind g c d (before ++ (earlier ∷ after)) again ≡ Some here → leads_behind g c d before earlier.key ≡ Some there
-      → Collide there here → Clashes g what c object before earlier after again
-  same_argument : (type : ScalarType) → what ≡ Some (scalar_shape type) → is_argument earlier.key ≡ true → is_argument again ≡ true → Clashes g what c object before earlier after again
+      → Collide there here → label_behind g c d (before ++ (earlier ∷ after)) again ≡ name → Clashes g what c object before earlier after again name
+  same_argument : (type : ScalarType) → what ≡ Some (scalar_shape type) → is_argument earlier.key ≡ true → is_argument again ≡ true → key_text again ≡ name
+      → Clashes g what c object before earlier after again name
 
--- The last event is a key that an earlier entry's key clashes with, which stood at `first`.
+-- The last event is a key of this name that an earlier entry's key clashes with, which stood at `first`.
 pub record IsDuplicate (g : Setting) (root : Part) (taken looked : List Event) (name : List ℕ) (first : Span) (path : List Step) : Type 0 where
   pub here : At g root taken looked
   pub again : Key
@@ -236,8 +262,7 @@ pub record IsDuplicate (g : Setting) (root : Part) (taken looked : List Event) (
   pub earlier : Entry
   pub after : List Entry
   pub place : here.spot.place ≡ in_object container (before ++ (earlier ∷ after))
-  pub clashes : Clashes g.registry (defined_at g.registry here.spot.due.what) here.spot.stands.choice (option_and_then object_of (defined_at g.registry here.spot.due.what)) before earlier after again
-  pub text : key_text again ≡ name
+  pub clashes : Clashes g.registry (defined_at g.registry here.spot.due.what) here.spot.stands.choice (option_and_then object_of (defined_at g.registry here.spot.due.what)) before earlier after again name
   pub first_span : (key_note earlier.key).span ≡ first
   pub at : here.spot.due.path ≡ path
 

@@ -3,13 +3,13 @@ use Rattle.std.specs.Prelude.{◌≡◌, ℕ, zero, suc, ◌≤◌, ◌⊎◌, L
 use Rattle.semantics_lines.specs.Trees.{Tree}
 use Rattle.semantics_lines.specs.Shapes.{Registry}
 use Rattle.semantics_lines.specs.Events.{Span, no_span, Event}
-use Rattle.semantics_lines.specs.Faults.{Step, Refusal, parse_failed, wrong_kind, array_length, too_many_elements, FaultKind, unexpected_token, missing_field, duplicate_field, number_out_of_range, cannot_borrow, reflect, too_deep, Fault, Ending, ends, stops, ended_at}
+use Rattle.semantics_lines.specs.Faults.{Step, Refusal, parse_failed, wrong_kind, array_length, too_many_elements, FaultKind, unexpected_token, unknown_field, missing_field, duplicate_field, number_out_of_range, cannot_borrow, reflect, too_deep, Fault, Ending, ends, stops, ended_at}
 use Rattle.semantics_lines.specs.Tapes.{Comes}
 use Rattle.semantics.specs.Reading.{Setting, from_events, Reads}
 use Rattle.semantics.specs.Recoding.{tape_setting}
 use Rattle.semantics.specs.Seen.{IsOpen, last_span}
 use Rattle.semantics_causes.specs.Due.{Part, root_part}
-use Rattle.semantics_causes.specs.Causes.{NoRun, IsTooDeep, IsUnexpected, IsUnset, IsMissing, IsLacking, IsTooMany, IsOtherLength, IsDuplicate}
+use Rattle.semantics_causes.specs.Causes.{NoRun, IsTooDeep, IsUnexpected, IsUnset, IsMissing, IsLacking, IsTooMany, IsOtherLength, IsUnknown, IsDuplicate}
 
 -- the path is there, and has the property
 abbrev pub OnPath : Option (List Step) → (List Step → Type 0) → Type 0
@@ -34,6 +34,7 @@ HasRefusalCause g root taken looked f _ = ⊥
 abbrev pub HasOwnCause : Setting → Part → ℕ → List Event → List Event → Fault → FaultKind → Type 0
 HasOwnCause g root budget taken looked f (too_deep limit) = (limit ≡ budget) × OnPath f.path (IsTooDeep g root taken looked)
 HasOwnCause g root budget taken looked f unexpected_token = OnPath f.path (IsUnexpected g root taken looked)
+HasOwnCause g root budget taken looked f (unknown_field name) = OnPath f.path (IsUnknown g root taken looked name)
 HasOwnCause g root budget taken looked f (missing_field name shape) = OnPath f.path (λ path. IsMissing g root taken looked name shape path ⊎ IsLacking g root taken looked name shape path)
 HasOwnCause g root budget taken looked f (duplicate_field name first) = OnPath f.path (λ path. OnSpan first (λ there. IsDuplicate g root taken looked name there path))
 HasOwnCause g root budget taken looked f (number_out_of_range number type) = OnPath f.path (IsUnset g root taken looked f.kind)

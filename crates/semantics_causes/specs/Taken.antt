@@ -7,7 +7,7 @@ use Rattle.semantics_lines.specs.Faults.{ShapeLabel}
 use Rattle.semantics.specs.Labels.{label_at}
 use Rattle.semantics.specs.Runs.{Run, one, runs_events, Entry, entries_events}
 use Rattle.semantics.specs.Places.{Path, Choice, is_taken}
-use Rattle.semantics.specs.Keys.{Plan, plan_of, leads, ordered_count, Placed, placed, is_allowed}
+use Rattle.semantics.specs.Keys.{Plan, plan_of, leads, key_label, ordered_count, Placed, placed, is_allowed}
 use Rattle.semantics.specs.Reading.{Setting, from_events, source_of, plain_layout, set_to, is_argument, is_key, arguments, read_each, read_elements, read_outcome, entry_runs, read, read_part}
 use Rattle.semantics.specs.Ends.{End, leaf_at}
 use Rattle.semantics.specs.Seen.{IsOpen}
@@ -19,6 +19,10 @@ struct_plan g c d = plan_of g c d.deny (plain_layout d)
 -- where a key of a struct leads behind these entries
 abbrev pub leads_behind : Registry → Choice → StructShape → List Entry → Key → Option Path
 leads_behind g c d es q = leads (struct_plan g c d) (ordered_count 0 es) q
+
+-- what a key of a struct is called behind these entries
+abbrev pub label_behind : Registry → Choice → StructShape → List Entry → Key → List ℕ
+label_behind g c d es q = key_label (struct_plan g c d) (ordered_count 0 es) q
 
 -- what stands at the end of a path of a struct
 abbrev pub end_in : Registry → Choice → StructShape → Path → Option End
