@@ -1,10 +1,10 @@
 -- The fields of a checked registry's structs: none is flattened, and none declares a default.
-use Rattle.std.proofs.Common.{◌≡◌, ℕ, zero, suc, List, [], ◌∷◌, slice_get, Option, Some, None, Bool, true, false, refl, sym, ap, ◌∙◌}
+use Rattle.std.proofs.Common.{◌≡◌, ℕ, zero, suc, List, [], ◌∷◌, slice_get, Option, Some, None, false, refl, sym, ap, ◌∙◌}
 use Rattle.std.specs.List.{AllByRecursion as Every}
 use Rattle.semantics_lines.specs.Shapes.{Field, Definition, struct_shape, Registry, definition_at}
 use Rattle.semantics.specs.Registry.{is_unbuilt, IsRegistry}
 use Rattle.laws.proofs.Built.{BuiltField, struct_built, built}
-use Rattle.read_steps.specs.Tasks.{fields_in, denies_in, fields_at, denies_at}
+use Rattle.read_steps.specs.Tasks.{fields_in, fields_at}
 
 -- a field of its own, which declares no default
 abbrev pub IsBuilt : Field → Type 0
@@ -30,19 +30,3 @@ one_of (h ∷ fields) (b, all) (suc k) f is = one_of fields all k f is
 -- the one at a place
 pub built_at : (g : Registry) → IsRegistry g → (s k : ℕ) (f : Field) → slice_get (fields_at g s) k ≡ Some f → IsBuilt f
 built_at g checked s k f is = one_of (fields_at g s) (all_built g checked s) k f is
-
-denies_none : (d : Definition) → is_unbuilt d ≡ false → denies_in (Some d) ≡ false
-denies_none (struct_shape d) fine = by_test d.deny refl fine
-  where
-    by_test : (b : Bool) → d.deny ≡ b → is_unbuilt (struct_shape (record d { deny = b })) ≡ false → d.deny ≡ false
-    by_test true is e = absurd cc
-    by_test false is e = is
-denies_none _ fine = refl
-
-none_in : (o : Option Definition) → ((d : Definition) → o ≡ Some d → is_unbuilt d ≡ false) → denies_in o ≡ false
-none_in None fine = refl
-none_in (Some d) fine = denies_none d (fine d refl)
-
--- no struct refuses unknown keys
-pub none_denies : (g : Registry) → IsRegistry g → (s : ℕ) → denies_at g s ≡ false
-none_denies g checked s = none_in (definition_at g s) (built g checked s)

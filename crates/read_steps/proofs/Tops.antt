@@ -5,7 +5,7 @@ use Rattle.laws_machine.specs.Frames.{keyed, object, node, argument, Frames}
 use Rattle.laws_machine.specs.Frames as machine
 use Rattle.event_core.specs.Metadata.{span_view}
 use Rattle.event_core.specs.declared.span.Span.{Span}
-use Rattle.read_steps.specs.declared.key.Named.{Named}
+use Rattle.read_steps.specs.declared.key.KeyAt.{KeyAt}
 use Rattle.read_steps.specs.declared.frames.TuplePart.{TuplePart}
 use Rattle.read_steps.specs.declared.frames.StructPart.{StructPart}
 use Rattle.read_steps.specs.declared.frames.ArgumentKey.{ArgumentKey}
@@ -47,7 +47,7 @@ module _ (t : Terms) (fs : Frames) where
   keyed_top (frame.Elements p) is = absurd cc
   keyed_top (frame.Object p) is = by_key p.key is
     where
-      by_key : (o : Option Named) → object_kind o ≡ kind.Keyed → KeyedTop (frame.Object p)
+      by_key : (o : Option KeyAt) → object_kind o ≡ kind.Keyed → KeyedTop (frame.Object p)
       by_key None is = absurd cc
       by_key (Some k) is = absurd cc
   keyed_top (frame.ResultKey p) is = absurd cc
@@ -63,7 +63,7 @@ module _ (t : Terms) (fs : Frames) where
   pub object_top : (f : Frame) → kind_of f ≡ kind.Object → ObjectTop f
   object_top (frame.Object p) is = (p, by_key p.key is)
     where
-      by_key : (o : Option Named) → object_kind o ≡ kind.Object → object_frame (struct_of t p) o ∷ fs ≡ object (struct_of t p) ∷ fs
+      by_key : (o : Option KeyAt) → object_kind o ≡ kind.Object → object_frame (struct_of t p) o ∷ fs ≡ object (struct_of t p) ∷ fs
       by_key None is = refl
       by_key (Some k) is = absurd cc
   object_top frame.Bottom is = absurd cc
@@ -103,7 +103,7 @@ module _ (t : Terms) (fs : Frames) where
       by_key true is = absurd cc
   node_top (frame.Object p) is = by_key p.key is
     where
-      by_key : (o : Option Named) → object_kind o ≡ kind.Node → NodeTop (frame.Object p)
+      by_key : (o : Option KeyAt) → object_kind o ≡ kind.Node → NodeTop (frame.Object p)
       by_key None is = absurd cc
       by_key (Some k) is = absurd cc
   node_top (frame.ResultKey p) is = absurd cc
@@ -128,7 +128,7 @@ module _ (t : Terms) (fs : Frames) where
       by_key true is = absurd cc
   argument_top (frame.Object p) is = by_key p.key is
     where
-      by_key : (o : Option Named) → object_kind o ≡ kind.Argument → ArgumentTop (frame.Object p)
+      by_key : (o : Option KeyAt) → object_kind o ≡ kind.Argument → ArgumentTop (frame.Object p)
       by_key None is = absurd cc
       by_key (Some k) is = absurd cc
   argument_top (frame.ResultKey p) is = absurd cc

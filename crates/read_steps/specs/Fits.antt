@@ -1,7 +1,7 @@
 -- What an event is to those who look for another one.
 use Rattle.std.specs.Prelude.{Option, Some, None, Result, Ok, Err, Bool, true, false, ◌&&◌, cond, bytes_eq, codes}
 use Rattle.semantics_lines.specs.Texts.{Phrase}
-use Rattle.semantics_lines.specs.Events.{Scalar, named, nameless, scalar, key, of_struct, of_sequence, object_kind, Event, leaf, start, stop}
+use Rattle.semantics_lines.specs.Events.{Scalar, named, nameless, ordered, scalar, key, of_struct, of_sequence, object_kind, Event, leaf, start, stop}
 use Rattle.semantics.specs.Reading.{is_nothing}
 use Rattle.shape_types.specs.Texts.{phrase_of}
 use Rattle.event_core.specs.Events.{scalar_of as scalar_view}
@@ -78,16 +78,18 @@ begun_view (begun.Scalar x) = as_scalar (scalar_view x)
 begun_view begun.Node = as_node
 begun_view (begun.Other u) = as_other
 
--- what an event is, where an entry may begin: the end, a key with or without a name, or anything else
+-- what an event is, where an entry may begin: the end, a key with or without a name, one by order, or anything else
 pub data Mark : Type 0 where
   at_end : Mark
   at_name : Phrase → Mark
   at_nameless : Mark
+  at_order : Mark
   elsewhere : Mark
 
 abbrev pub mark_of : Event → Mark
 mark_of (leaf (key (named t m n))) = at_name t
 mark_of (leaf (key (nameless m n))) = at_nameless
+mark_of (leaf (key (ordered n))) = at_order
 mark_of (stop of_struct n) = at_end
 mark_of _ = elsewhere
 
@@ -95,6 +97,7 @@ abbrev pub mark_view : DeclaredMark → Mark
 mark_view mark.End = at_end
 mark_view (mark.Name t) = at_name (phrase_of t)
 mark_view mark.Nameless = at_nameless
+mark_view (mark.Ordered u) = at_order
 mark_view (mark.Elsewhere u) = elsewhere
 
 -- how a result went, by the name of its key

@@ -1,6 +1,6 @@
 -- Which frame is innermost.
 use Rattle.std.specs.Prelude.{Option, Some, None, Bool, true, false}
-use Rattle.read_steps.specs.declared.key.Named.{Named}
+use Rattle.read_steps.specs.declared.key.KeyAt.{KeyAt}
 use Rattle.read_steps.specs.declared.frames.ArgumentKey.{ArgumentKey}
 use Rattle.read_steps.specs.declared.frames.ArgumentKey.TheVariants as argument_key
 use Rattle.read_steps.specs.declared.frames.Frame.{Frame}
@@ -14,7 +14,7 @@ keyed_kind false = kind.Keyed
 keyed_kind true = kind.KeyedItem
 
 -- a struct before a key, or after one
-abbrev pub object_kind : Option Named → FrameKind
+abbrev pub object_kind : Option KeyAt → FrameKind
 object_kind None = kind.Object
 object_kind (Some k) = kind.Field
 

@@ -1,10 +1,10 @@
 -- The steps of the machine by what an event is, as the code takes them.
-use Rattle.std.specs.Prelude.{◌≡◌, ℕ, List, [], ◌∷◌, length, slice_get, Option, Some, None, Result, Ok, Err, Bool, true, false, cond, codes, bytes_eq}
+use Rattle.std.specs.Prelude.{◌≡◌, ℕ, ◌+◌, nat_lt, List, [], ◌∷◌, length, slice_get, Option, Some, None, Result, Ok, Err, Bool, true, false, cond, codes, bytes_eq}
 use Rattle.semantics_lines.specs.Texts.{Phrase}
 use Rattle.semantics_lines.specs.Trees.{Tree, structure, trees_of}
-use Rattle.semantics_lines.specs.Shapes.{Field}
+use Rattle.semantics_lines.specs.Shapes.{Field, effective_name}
 use Rattle.semantics_lines.specs.Events.{Span}
-use Rattle.semantics_lines.specs.Faults.{Step, duplicate_field, Fault}
+use Rattle.semantics_lines.specs.Faults.{Step, unknown_field, duplicate_field, Fault}
 use Rattle.semantics.specs.Typed.{has_length}
 use Rattle.semantics.specs.Reading.{from_events}
 use Rattle.laws_reading.specs.Input.{◌>>=◌, refused, unexpected, never}
@@ -13,10 +13,10 @@ use Rattle.laws_reading.specs.Nodes.{Target, set_at, bare_node}
 use Rattle.laws_reading.specs.Sequences.{items_end}
 use Rattle.laws_reading.specs.Values.{Terms}
 use Rattle.laws_machine.specs.Frames.{ItemsPart, TuplePart, StructPart, Entered, NodePart, elements, keyed, keyed_item, object, field, node, argument, passing, Frames, path}
-use Rattle.laws_machine.specs.Delivery.{going, Steps, here, no_step, with_argument, deliver, handed}
+use Rattle.laws_machine.specs.Delivery.{going, Steps, here, no_step, with_got, with_argument, deliver, handed}
 use Rattle.laws_machine.specs.Begins.{await}
 use Rattle.laws_machine.specs.Steps.{keyed_in, tuple_step, struct_end, set_in}
-use Rattle.read_steps.specs.Fits.{TupleForm, as_sequence, as_object, as_nothing, Begun, as_scalar, as_node, as_other, Mark, at_end, at_name, at_nameless, elsewhere}
+use Rattle.read_steps.specs.Fits.{TupleForm, as_sequence, as_object, as_nothing, Begun, as_scalar, as_node, as_other, Mark, at_end, at_name, at_nameless, at_order, elsewhere}
 use Rattle.read_steps.specs.Keys.{place_in}
 use Rattle.read_steps.specs.Stops.{Fails}
 
@@ -59,40 +59,82 @@ abbrev pub key_taken : Frames → Frames
 key_taken (keyed l ∷ fs) = keyed_item l ∷ fs
 key_taken fs = fs
 
--- the key of a field, unless the field was read already
-abbrev pub fresh_step : Option Span → Field → Terms → StructPart → Entered → Frames → Steps
-fresh_step (Some first) f t s e fs = refused (duplicate_field e.name.bytes (Some first)) (path t fs) (here e.span)
-fresh_step None f t s e fs = await t s.depth f.shape from_events (field s e ∷ fs) e.span
+-- a key that leads to the field of this place
+abbrev pub key_at : ℕ → Span → Entered
+key_at k span = record { path = k ∷ []; span = span }
 
-abbrev pub place_step : Option Field → Terms → StructPart → Entered → Frames → Steps
-place_step None t s e fs = never (path t fs) (here e.span)
-place_step (Some f) t s e fs = fresh_step (taken_span e.path s.got.values) f t s e fs
+-- the value of this field comes, behind its key
+abbrev pub enter_step : Option Field → Terms → StructPart → Entered → Frames → Steps
+enter_step None t s e fs = never (path t fs) (here e.span)
+enter_step (Some f) t s e fs = await t s.depth f.shape from_events (field s e ∷ fs) e.span
 
--- a key of a struct that names the field at this place, or none
+-- a key of this name that leads to the field of this place, unless the field was read already
+abbrev pub known_step : Option Span → List ℕ → ℕ → Terms → StructPart → Span → Frames → Steps
+known_step (Some first) name k t s span fs = refused (duplicate_field name (Some first)) (path t fs) (here span)
+known_step None name k t s span fs = enter_step (slice_get s.layout.fields k) t s (key_at k span) fs
+
+-- a key of this name that leads nowhere
+abbrev pub unknown_step : List ℕ → Terms → StructPart → Frames → Span → Steps
+unknown_step name t s fs span = cond s.deny (refused (unknown_field name) (path t fs) (here span)) (Ok (going (passing [] ∷ object s ∷ fs)))
+
+-- a key of a struct that leads to the field of this place, or nowhere
 abbrev pub found_step : Option ℕ → Terms → StructPart → Phrase → Frames → Span → Steps
-found_step None t s name fs span = Ok (going (passing [] ∷ object s ∷ fs))
-found_step (Some k) t s name fs span = place_step (slice_get s.layout.fields k) t s (record { path = k ∷ []; name = name; span = span }) fs
+found_step None t s name fs span = unknown_step name.bytes t s fs span
+found_step (Some k) t s name fs span = known_step (taken_span (k ∷ []) s.got.values) name.bytes k t s span fs
+
+-- the name of this field
+abbrev pub name_in : Option Field → List ℕ
+name_in None = []
+name_in (Some f) = effective_name f
+
+-- a struct of which so many keys named their field by its order
+abbrev pub with_count : ℕ → StructPart → StructPart
+with_count n s = with_got s (record { count = n; values = s.got.values })
+
+-- the key by order that leads to the field of this place, and with which there are so many
+abbrev pub next_step : ℕ → ℕ → Terms → StructPart → Frames → Span → Steps
+next_step k n t s fs span = known_step (taken_span (k ∷ []) s.got.values) (name_in (slice_get s.layout.fields k)) k t (with_count n s) span fs
+
+-- a key by order, where there is one more field
+abbrev pub order_step : Terms → StructPart → Frames → Span → Steps
+order_step t s fs span = cond (nat_lt s.got.count (length s.layout.fields)) (next_step s.got.count (s.got.count + 1) t s fs span) (unexpected (path t fs) (here span))
 
 -- the key of a field of the struct that is innermost
-abbrev pub field_by : Option Field → Terms → Entered → Frames → Steps
-field_by o t e (object s ∷ fs) = place_step o t s e fs
-field_by o t e fs = no_step
+abbrev pub entered_by : ℕ → Terms → Entered → Frames → Steps
+entered_by k t e (object s ∷ fs) = enter_step (slice_get s.layout.fields k) t s e fs
+entered_by k t e fs = no_step
 
 -- that struct after the key
 abbrev pub field_entered : Entered → Frames → Frames
 field_entered e (object s ∷ fs) = field s e ∷ fs
 field_entered e fs = fs
 
--- the same, by the place of the field
-abbrev pub entered_by : ℕ → Terms → Entered → Frames → Steps
-entered_by k t e (object s ∷ fs) = place_step (slice_get s.layout.fields k) t s e fs
-entered_by k t e fs = no_step
+-- a key of this name of the struct that is innermost, which leads to the field of this place
+abbrev pub known_by : List ℕ → ℕ → Terms → Span → Frames → Steps
+known_by name k t span (object s ∷ fs) = known_step (taken_span (k ∷ []) s.got.values) name k t s span fs
+known_by name k t span fs = no_step
+
+-- a key of it that leads nowhere
+abbrev pub unknown_by : List ℕ → Terms → Span → Frames → Steps
+unknown_by name t span (object s ∷ fs) = unknown_step name t s fs span
+unknown_by name t span fs = no_step
+
+-- the key by order of it
+abbrev pub next_by : ℕ → ℕ → Terms → Span → Frames → Steps
+next_by k n t span (object s ∷ fs) = next_step k n t s fs span
+next_by k n t span fs = no_step
+
+-- that struct with so many keys by order
+abbrev pub counted : ℕ → Frames → Frames
+counted n (object s ∷ fs) = object (with_count n s) ∷ fs
+counted n fs = fs
 
 -- an entry of the struct that is innermost, or its end
 abbrev pub marked_step : Mark → Terms → Frames → Span → Steps
 marked_step at_nameless t fs span = Ok (going (passing [] ∷ fs))
 marked_step elsewhere t fs span = unexpected (path t fs) (here span)
 marked_step at_end t (object s ∷ fs) span = struct_end t s fs span >>= deliver fs
+marked_step at_order t (object s ∷ fs) span = order_step t s fs span
 marked_step (at_name name) t (object s ∷ fs) span = found_step (place_in s.layout.fields name.bytes) t s name fs span
 marked_step _ t fs span = no_step
 
@@ -118,6 +160,7 @@ argument_in t fs span = no_step
 -- an entry of the node that is innermost, or its end
 abbrev pub node_marked : Mark → Terms → Frames → Span → Steps
 node_marked at_nameless t fs span = Ok (going (passing [] ∷ fs))
+node_marked at_order t fs span = unexpected (path t fs) (here span)
 node_marked elsewhere t fs span = unexpected (path t fs) (here span)
 node_marked at_end t (node p ∷ fs) span = node_ended p.node.value t fs span
 node_marked (at_name name) t (node p ∷ fs) span = named_entry name.bytes t p fs span

@@ -4,7 +4,6 @@ use Rattle.semantics_lines.specs.Events.{Span}
 use Rattle.semantics.specs.Labels.{label_at}
 use Rattle.semantics.specs.Places.{At}
 use Rattle.shape_types.specs.Scalars.{scalar_type_of}
-use Rattle.shape_types.specs.Texts.{phrase_of}
 use Rattle.shape_types.specs.Trees.{tree_of}
 use Rattle.event_core.specs.Metadata.{span_view}
 use Rattle.laws_reading.specs.Structs.{Told, Got, nothing_got}
@@ -14,7 +13,7 @@ use Rattle.laws_machine.specs.Frames.{awaits, option, items, elements, keyed, ke
 use Rattle.laws_machine.specs.Delivery as delivery
 use Rattle.shape_types.specs.declared.shape.ShapeId.{ShapeId}
 use Rattle.read_steps.specs.declared.task.ItemsOf.{ItemsOf}
-use Rattle.read_steps.specs.declared.key.Named.{Named}
+use Rattle.read_steps.specs.declared.key.KeyAt.{KeyAt}
 use Rattle.read_steps.specs.declared.filled.Filled.{Filled}
 use Rattle.read_steps.specs.declared.frames.ItemsPart.{ItemsPart}
 use Rattle.read_steps.specs.declared.frames.TuplePart.{TuplePart}
@@ -44,16 +43,16 @@ abbrev pub tuple_of : Terms → TuplePart → machine.TuplePart
 tuple_of t p = record { elements = record { shape = label_at t.setting.registry p.shape.0; fields = fields_at t.setting.registry p.shape.0 }; depth = p.depth; front = map tree_of p.front.items }
 
 -- a key whose value comes
-abbrev pub entered_of : Named → machine.Entered
-entered_of k = record { path = k.place ∷ []; name = phrase_of k.name; span = span_view k.span }
+abbrev pub entered_of : KeyAt → machine.Entered
+entered_of k = record { path = k.place ∷ []; span = span_view k.span }
 
 -- a field that was read
 abbrev pub told_of : Filled → At Told
 told_of f = delivery.told_behind (entered_of f.key) (tree_of f.value)
 
--- The fields that were read. No key names its field by its order yet.
-abbrev pub got_of : List Filled → Got
-got_of fs = record { count = 0; values = map told_of fs }
+-- the fields that were read, and how many keys named theirs by its order
+abbrev pub got_of : ℕ → List Filled → Got
+got_of n fs = record { count = n; values = map told_of fs }
 
 -- the fields of a struct so far
 abbrev pub struct_of : Terms → StructPart → machine.StructPart
@@ -63,7 +62,7 @@ struct_of t p = record {
   layout = record { fields = fields_at t.setting.registry p.shape.0; whole = false };
   choice = [];
   depth = p.depth;
-  got = got_of p.filled.items;
+  got = got_of p.ordered p.filled.items;
 }
 
 -- a result, before it is known what it holds
@@ -88,7 +87,7 @@ keyed_frame l false = keyed l
 keyed_frame l true = keyed_item l
 
 -- a struct before a key, or after this one
-abbrev pub object_frame : machine.StructPart → Option Named → machine.Frame
+abbrev pub object_frame : machine.StructPart → Option KeyAt → machine.Frame
 object_frame s None = object s
 object_frame s (Some k) = field s (entered_of k)
 

@@ -357,6 +357,7 @@ fn begin_struct<'de>(
                 depth: wanted.depth,
                 filled: Vec::new(task.alloc),
                 key: None,
+                ordered: 0,
             };
             stack.open(Frame::Object(part))?;
             Ok(Moved::To(Next::Inside))

@@ -3,7 +3,7 @@ ghost use Rattle.std.specs.Prelude.{◌≡◌, [], length, map, slice_get, Match
 ghost use Rattle.std.specs.Option.{option_map, option_copied};
 ghost use Rattle.shape_types.specs.Shapes.{field_of, registry};
 ghost use Rattle.read_steps.specs.Keys.{place_in};
-ghost use Rattle.read_steps.specs.Tasks.{fields_at};
+ghost use Rattle.read_steps.specs.Tasks.{denies_at, fields_at};
 
 use crate::key::find_field;
 use shape_core::{Def, Field, ShapeId, Shapes};
@@ -30,6 +30,16 @@ pub fn field_at<'s, 'v>(
     match fields_of(shapes, shape) {
         Some(fields) => fields.get(place),
         None => None,
+    }
+}
+
+/// Whether the struct of this number refuses unknown keys.
+pub fn denies(shapes: &Shapes, shape: ShapeId) -> bool
+    ensures { result ≡ denies_at (registry shapes.now) shape.0 }
+{
+    match shapes.definition_at(shape) {
+        Some(Def::Struct(def)) => def.deny_unknown_fields,
+        _ => false,
     }
 }
 

@@ -35,7 +35,7 @@ pub fn gather<'de>(
     filled: Vec<Filled<'de>>,
     span: Span,
 ) -> Result<Value<'de>, ReadStop<'de>>
-    ensures exact { Gives told_stop tree_of result (gathered (registry task.now.shapes.now) [] (record { fields = fields_at (registry task.now.shapes.now) shape.0; whole = false }) shape.0 (got_of filled.entry.items) (path (terms_of task.now) (open_of (terms_of task.now) stack.now)) (here (span_view span))) }
+    ensures exact { Gives told_stop tree_of result (gathered (registry task.now.shapes.now) [] (record { fields = fields_at (registry task.now.shapes.now) shape.0; whole = false }) shape.0 (got_of 0 filled.entry.items) (path (terms_of task.now) (open_of (terms_of task.now) stack.now)) (here (span_view span))) }
     ensures own { IfErr result (λ e. IsOwn (told_stop e)) }
 {
     task.shapes.rules();

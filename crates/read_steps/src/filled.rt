@@ -9,15 +9,15 @@ ghost use Rattle.shape_types.specs.Trees.{tree_of};
 ghost use Rattle.read_steps.specs.Filled.{stands_at, taken_of, taken_view, or_twice};
 ghost use Rattle.read_steps.specs.Views.{told_of};
 
-use crate::key::Named;
+use crate::key::KeyAt;
 use event_core::Span;
 use shape_core::Value;
 
 /// A field that was read.
 #[derive(Drop)]
 pub struct Filled<'de> {
-    /// The key that named it.
-    pub key: Named<'de>,
+    /// The key that led to it.
+    pub key: KeyAt,
     /// What stood behind the key.
     pub value: Value<'de>,
 }

@@ -41,6 +41,8 @@ pub enum Mark<'de> {
     Name(Text<'de>),
     /// A key without a name.
     Nameless,
+    /// A key by order, told as what it is to those who take none.
+    Ordered(Unfit),
     /// No key.
     Elsewhere(Unfit),
 }
@@ -149,6 +151,7 @@ pub fn mark_event<'de>(expected: Expected, event: &mut ParseEvent<'de>) -> Mark<
             Some(name) => Mark::Name(name),
             None => Mark::Nameless,
         },
+        ParseEventKind::OrderedField => Mark::Ordered(Unfit { got, expected }),
         _ => Mark::Elsewhere(Unfit { got, expected }),
     }
 }

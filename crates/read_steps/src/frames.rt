@@ -4,7 +4,7 @@ ghost use Rattle.laws_reading.specs.Values.{Terms};
 ghost use Rattle.read_steps.specs.Views.{frames_of};
 
 use crate::filled::Filled;
-use crate::key::Named;
+use crate::key::KeyAt;
 use crate::opened::Opened;
 use crate::stack::Stack;
 use crate::task::{ItemsOf, Sides};
@@ -48,7 +48,9 @@ pub struct StructPart<'de> {
     /// The fields that were read.
     pub filled: Vec<Filled<'de>>,
     /// The key whose value comes, if one does.
-    pub key: Option<Named<'de>>,
+    pub key: Option<KeyAt>,
+    /// How many keys named their field by its order.
+    pub ordered: usize,
 }
 
 /// A result, before it is known what it holds.

@@ -7,15 +7,13 @@ ghost use Rattle.shape_types.specs.Texts.{phrase_of};
 ghost use Rattle.read_steps.specs.Keys.{calls, is_text};
 
 use event_core::{FieldKey, Span};
-use shape_core::{Field, Text};
+use shape_core::{Field, Text, effective_name};
 
-/// A key that names a field.
-#[derive(Drop)]
-pub struct Named<'de> {
+/// A key that leads to a field, by its name or by its order.
+#[derive(Clone, Copy)]
+pub struct KeyAt {
     /// The place of the field among those of its struct.
     pub place: usize,
-    /// The text of the key.
-    pub name: Text<'de>,
     /// Where the key stands.
     pub span: Span,
 }
@@ -41,11 +39,7 @@ pub fn find_field(fields: &[Field], name: &str) -> Option<usize>
 fn is_called(field: &Field, name: &str) -> bool
     ensures { result ≡ calls name.now field.now }
 {
-    let effective = match &field.rename {
-        Some(rename) => rename.as_str(),
-        None => field.name.as_str(),
-    };
-    !field.flatten && (effective == name || is_alias(field, name))
+    !field.flatten && (effective_name(field) == name || is_alias(field, name))
 }
 
 fn is_alias(field: &Field, name: &str) -> bool

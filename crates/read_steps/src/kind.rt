@@ -3,7 +3,7 @@ ghost use Rattle.std.specs.Prelude.{◌≡◌};
 ghost use Rattle.read_steps.specs.Kinds.{keyed_kind, kind_of, node_kind, object_kind};
 
 use crate::frames::{ArgumentKey, Frame};
-use crate::key::Named;
+use crate::key::KeyAt;
 
 /// Which frame it is, without what it holds.
 #[derive(Clone, Copy)]
@@ -64,7 +64,7 @@ fn keyed_kind(after_key: bool) -> FrameKind
     }
 }
 
-fn object_kind(key: &Option<Named<'_>>) -> FrameKind
+fn object_kind(key: &Option<KeyAt>) -> FrameKind
     ensures { result ≡ object_kind key.now }
 {
     match key {

@@ -21,6 +21,7 @@ mod left;
 mod node;
 mod object;
 mod opened;
+mod order;
 mod outcome;
 mod parts;
 mod pass;

@@ -53,7 +53,9 @@ pub fn step_node<'de>(
         }
         Mark::Name(name) => step_name(task, stack, name, span),
         Mark::Nameless => Ok(pass_entry(task)),
-        Mark::Elsewhere(unfit) => Err(unexpected(task, stack, unfit, span)),
+        Mark::Ordered(unfit) | Mark::Elsewhere(unfit) => {
+            Err(unexpected(task, stack, unfit, span))
+        }
     }
 }
 

@@ -12,10 +12,10 @@ use Rattle.read_steps.proofs.fill.gather.Goals as goal
 pub returns-in-Ok-clause-exact : goal.returns-in-Ok-clause-exact
 returns-in-Ok-clause-exact c =
     let t = terms_of c.args.task.now in
-    gathered_is (registry c.args.task.now.shapes.now) c.rules.ensures c.args.shape.0 (got_of c.args.filled.items) (path t (open_of t c.args.stack.now)) (span_view c.args.span) (map tree_of c.in-Ok.values) c.in-Ok.ensures.exact
+    gathered_is (registry c.args.task.now.shapes.now) c.rules.ensures c.args.shape.0 (got_of 0 c.args.filled.items) (path t (open_of t c.args.stack.now)) (span_view c.args.span) (map tree_of c.in-Ok.values) c.in-Ok.ensures.exact
     ∙ ap Ok (sym c.structure.ensures)
 
 pub returns-clause-exact : goal.returns-clause-exact
 returns-clause-exact c =
     let t = terms_of c.args.task.now in
-    gathered_fails (registry c.args.task.now.shapes.now) c.rules.ensures c.args.shape.0 (got_of c.args.filled.items) (path t (open_of t c.args.stack.now)) (span_view c.args.span) (told_stop c.in-Err.stop) c.in-Err.ensures.exact
+    gathered_fails (registry c.args.task.now.shapes.now) c.rules.ensures c.args.shape.0 (got_of 0 c.args.filled.items) (path t (open_of t c.args.stack.now)) (span_view c.args.span) (told_stop c.in-Err.stop) c.in-Err.ensures.exact
