@@ -1,26 +1,16 @@
 //! What the writer asks of shapes and fields.
 ghost use Rattle.std.specs.Prelude.{◌≡◌, None, cond, option_map};
-ghost use Rattle.semantics_lines.specs.Shapes.{effective_name, is_tuple};
+ghost use Rattle.semantics_lines.specs.Shapes.{is_tuple};
 ghost use Rattle.semantics.specs.Typed.{has_length, item_at, length_at};
-ghost use Rattle.shape_types.specs.Shapes.{field_of, registry, struct_kind_of};
+ghost use Rattle.shape_types.specs.Shapes.{registry, struct_kind_of};
 
-use shape_core::{Field, ShapeId, Shapes, StructKind};
+use shape_core::{ShapeId, Shapes, StructKind};
 
 /// Whether the values of a struct of this kind are written as a list.
 pub(crate) fn is_tuple(kind: StructKind) -> bool
     ensures { result ≡ is_tuple (struct_kind_of kind) }
 {
     matches!(kind, StructKind::Tuple | StructKind::TupleStruct)
-}
-
-/// The name by which a field is written.
-pub(crate) fn written_name<'f>(field: &'f Field<'_>) -> &'f str
-    ensures { result.now ≡ effective_name (field_of field.now) }
-{
-    match &field.rename {
-        Some(name) => name.as_str(),
-        None => field.name.as_str(),
-    }
 }
 
 /// Whether there are so many items, where that is said.

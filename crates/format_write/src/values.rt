@@ -8,14 +8,14 @@ ghost use Rattle.format_write.specs.Wrote.{writer};
 ghost use Rattle.format_write.specs.Writes.{Writes};
 
 use crate::calls;
-use crate::lookup::{is_tuple, item_for, written_name};
+use crate::lookup::{is_tuple, item_for};
 use crate::scalars::{
     write_bool, write_char, write_signed, write_text, write_unit, write_unsigned,
 };
 use crate::stop::Stop;
 use event_core::ScalarValue;
 use format_traits::FormatSerializer;
-use shape_core::{Field, ShapeId, Shapes, Value};
+use shape_core::{Field, ShapeId, Shapes, Value, effective_name};
 
 /// Writes a value of the shape of this number.
 #[cycle(write)]
@@ -140,7 +140,7 @@ fn write_struct<S: FormatSerializer>(
         let Some(field) = fields.get(at) else {
             return Err(Stop::NoForm);
         };
-        calls::field_key(written_name(field), serializer)?;
+        calls::field_key(effective_name(field), serializer)?;
         write_value(shapes, field.shape, value, serializer)?;
     }
     if fields.len() != values.len() {

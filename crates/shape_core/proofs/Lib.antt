@@ -1,5 +1,6 @@
 pub mod Cycles
 pub mod Drafts
+pub mod KeyTexts
 pub mod Lists
 pub mod Tables
 pub mod Typing

@@ -7,7 +7,7 @@ use Rattle.std.specs.List.{list_any}
 use Rattle.semantics_lines.specs.Trees.{Tree}
 use Rattle.semantics_lines.specs.Shapes.{Definition, struct_shape, transparent_shape, Shape, Draft, Registry, definition_of, definition_at}
 use Rattle.semantics_lines.specs.ShapeFaults.{not_built}
-use Rattle.semantics.specs.Registry.{has_attribute, is_unbuilt, is_not_built, rules_of, first_broken, fault_of, drafted, IsRegistry}
+use Rattle.semantics.specs.Registry.{has_unbuilt_attribute, is_unbuilt, is_not_built, rules_of, first_broken, fault_of, drafted, IsRegistry}
 use Rattle.semantics.specs.Typed.{through, base_within, base}
 use Rattle.semantics.specs.Defaults.{declared_default}
 
@@ -20,9 +20,7 @@ none_is None e = refl
 none_is (Some v) e = absurd cc
 
 undeclared : (d : Definition) → is_unbuilt d ≡ false → declared_default d ≡ None
-undeclared (struct_shape s) e =
-    let (deny, others) = neither s.deny (is_some s.default || (s.container || list_any has_attribute s.fields)) e in
-    none_is s.default (neither (is_some s.default) (s.container || list_any has_attribute s.fields) others).0
+undeclared (struct_shape s) e = none_is s.default (neither (is_some s.default) (s.container || list_any has_unbuilt_attribute s.fields) e).0
 undeclared _ e = refl
 
 fault_free : (ds : List Draft) (i : ℕ) (d : Draft) (b : Bool) → is_not_built d ≡ b → (if b then Some not_built else first_broken (rules_of ds i d)) ≡ None → b ≡ false

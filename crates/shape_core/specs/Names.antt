@@ -1,11 +1,12 @@
 -- Which names stand twice, and the number of the shape of a name.
-use Rattle.std.specs.Prelude.{◌≡◌, ℕ, List, length, map, take, Bool, Some, None, slice_get, bytes_eq, if◌then◌else◌}
-use Rattle.std.specs.List.{list_any, position}
+use Rattle.std.specs.Prelude.{◌≡◌, ℕ, List, [], ◌∷◌, length, map, take, Bool, Some, None, slice_get, bytes_eq, if◌then◌else◌}
+use Rattle.std.specs.List.{list_any, position, cons_option}
 use Rattle.std.specs.Option.{option_or}
 use Rattle.std.specs.Borrow.{Bor}
 use Rattle.std.specs.BTreeMap.{BTreeMap, get_by_text}
 use Rattle.std.specs.declared.string.String.{String}
 use Rattle.std.specs.declared.alloc.Global.{Global}
+use Rattle.semantics_lines.specs.Shapes.{Field, effective_name}
 use Rattle.semantics.specs.Registry.{IsRegistry}
 use Rattle.shape_types.specs.Shapes.{registry}
 use Rattle.shape_types.specs.declared.draft.Draft.{Draft}
@@ -14,6 +15,10 @@ use Rattle.shape_types.specs.declared.shape.Shape.{Shape}
 -- some texts, in bytes
 abbrev pub texts : List (Bor (List ℕ)) → List (List ℕ)
 texts rs = map (λ r. r.now) rs
+
+-- the texts of the keys of one field
+abbrev pub own_texts : Field → List (List ℕ)
+own_texts f = effective_name f ∷ cons_option f.alias []
 
 -- for each shape, whether an earlier one has its name
 pub record AreRepeats (ds : List Draft) (repeats : List Bool) : Type 0 where

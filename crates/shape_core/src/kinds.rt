@@ -6,6 +6,7 @@ ghost use Rattle.semantics_lines.specs.Shapes.{is_tuple, is_unit};
 ghost use Rattle.semantics.specs.Registry.{on_definition, on_fields_of, misplaces, has_bad_item, has_some, has_bad_unit};
 ghost use Rattle.shape_types.specs.Shapes.{struct_kind_of, field_of, variant_of, definition_of};
 
+use crate::built::has_attribute;
 use itoa::Buffer;
 use shape_types::{Def, Field, Name, StructKind, Variant};
 
@@ -32,7 +33,7 @@ fn misplaces(fields: &[Field]) -> bool
     ensures { result ≡ misplaces 0 (map field_of fields.now) }
 {
     for (place, field) in fields.iter().enumerate() {
-        if !is_place(&field.name, place) {
+        if !is_place(&field.name, place) || has_attribute(field) {
             return true;
         }
     }
@@ -62,7 +63,7 @@ fn definition_misplaces(def: &Def) -> bool
     }
 }
 
-/// An item of a tuple has another name than its place, in decimal.
+/// An item of a tuple has another name than its place, in decimal, or has an attribute.
 pub fn has_bad_item(def: &Option<Def>) -> bool
     ensures { result ≡ on_definition (option_map definition_of def.now) has_bad_item }
 {

@@ -8,7 +8,9 @@ mod builder;
 mod built;
 mod check;
 mod defaults;
+mod effective;
 mod forms;
+mod keys;
 mod kinds;
 mod names;
 mod rules;
@@ -18,6 +20,7 @@ mod types;
 mod utf8;
 
 pub use builder::ShapesBuilder;
+pub use effective::effective_name;
 pub use shape_types::{
     Boxed, Bytes, CheckFault, Def, Draft, DraftsBuilder, EnumDef, EnumForm, FacetFault, Field,
     Items, MetaKind, Name, NameFault, OutOfMemory, Pair, ScalarType, Shape, ShapeFault,

@@ -11,7 +11,7 @@ use std::alloc::Global;
 use std::collections::{BTreeMap, BTreeSet};
 
 /// Whether a name equals an earlier one.
-fn some_repeat(alloc: Global, names: &[&str]) -> Result<bool, OutOfMemory>
+pub fn some_repeat(alloc: Global, names: &[&str]) -> Result<bool, OutOfMemory>
     ensures { IfOk result (λ found. found ≡ has_pair bytes_eq (texts names.now)) }
 {
     let mut seen = BTreeSet::new(alloc);

@@ -5,6 +5,7 @@ ghost use Rattle.semantics.specs.Registry.{on_definition, on_fields, is_missing,
 ghost use Rattle.shape_core.specs.Names.{AreRepeats};
 ghost use Rattle.shape_types.specs.Shapes.{field_of, variant_of, definition_of, draft_of, drafts_of};
 
+use crate::keys::keys_repeat;
 use crate::names::{fields_repeat, variants_repeat};
 use shape_types::{Def, Draft, Field, Items, OutOfMemory, ShapeId, Variant};
 use std::alloc::Global;
@@ -92,10 +93,11 @@ pub fn repeats_shape_name(
     }
 }
 
+#[tactic(auto, using(crate::proofs::KeyTexts::repeats_name, crate::proofs::KeyTexts::repeats_key))]
 fn repeats_field(alloc: Global, fields: &[Field]) -> Result<bool, OutOfMemory>
     ensures { IfOk result (λ found. found ≡ repeats_field (map field_of fields.now)) }
 {
-    fields_repeat(alloc, fields)
+    Ok(fields_repeat(alloc, fields)? || keys_repeat(alloc, fields)?)
 }
 
 fn variants_repeat_field(alloc: Global, variants: &[Variant]) -> Result<bool, OutOfMemory>
@@ -129,7 +131,7 @@ fn repeats_variant(alloc: Global, def: &Def) -> Result<bool, OutOfMemory>
     }
 }
 
-/// Two fields of one struct or variant have one name, or two variants of one enum.
+/// Two fields of one struct or variant have one name, or two of their keys, or two variants of one enum.
 pub fn repeats_name(alloc: Global, def: &Option<Def>) -> Result<bool, OutOfMemory>
     ensures { IfOk result (λ found. found ≡ on_definition (option_map definition_of def.now) repeats_name) }
 {

@@ -152,7 +152,7 @@ write_struct-returns-in_err-field_key g t c =
     let is = fields_at (writer (g.S.FormatSerializer.writing c.args.serializer.now).settings c.args.shapes.now) c.args.values.now k v (one_call end_struct) (drop_at _ k v c.fields-test.true c.index-values-at.is) fs f (drop_at fs k f within c.in-Some.ensures.lookup.1) in
     let key = one_call (field_key (effective_name (field_of f))) in
     let r = err_from_is_err_and c.from_residual-in_err-field_key.result c.from_residual-in_err-field_key.ensures.1 in
-    rw (r.1, r.2) (failed g.row.S-Error.Denot g.S.FormatSerializer.made g.met.S.FormatSerializer.joins g.S.FormatSerializer.writing c.args.serializer.now c.fields.serializer c.field_key.new.serializer _ _ _ (λ s. key) _ c.fields.invariant.1 is (rw (c.written_name.ensures) at c.in_err-field_key.ensures))
+    rw (r.1, r.2) (failed g.row.S-Error.Denot g.S.FormatSerializer.made g.met.S.FormatSerializer.joins g.S.FormatSerializer.writing c.args.serializer.now c.fields.serializer c.field_key.new.serializer _ _ _ (λ s. key) _ c.fields.invariant.1 is (rw (c.effective_name.ensures) at c.in_err-field_key.ensures))
 
 pub write_struct-returns-in_err-write_value : goal.write_struct-returns-in_err-write_value
 write_struct-returns-in_err-write_value g t c =
@@ -164,7 +164,7 @@ write_struct-returns-in_err-write_value g t c =
     let is = fields_at (writer (g.S.FormatSerializer.writing c.args.serializer.now).settings c.args.shapes.now) c.args.values.now k v (one_call end_struct) (drop_at _ k v c.fields-test.true c.index-values-at.is) fs f (drop_at fs k f within c.in-Some.ensures.lookup.1) in
     let item : Settings → Part = (λ s. calls_of (writer s c.args.shapes.now) f.shape.0 (tree_of v)) in
     let key = one_call (field_key (effective_name (field_of f))) in
-    let x = next g.row.S-Error.Denot g.S.FormatSerializer.made g.met.S.FormatSerializer.joins g.S.FormatSerializer.writing c.args.serializer.now c.fields.serializer c.field_key.new.serializer _ _ _ (λ s. key) _ c.fields.invariant.1 is (rw (c.written_name.ensures) at c.in_ok-field_key.ensures) in
+    let x = next g.row.S-Error.Denot g.S.FormatSerializer.made g.met.S.FormatSerializer.joins g.S.FormatSerializer.writing c.args.serializer.now c.fields.serializer c.field_key.new.serializer _ _ _ (λ s. key) _ c.fields.invariant.1 is (rw (c.effective_name.ensures) at c.in_ok-field_key.ensures) in
     let r = err_from_is_err_and c.from_residual-in_err-write_value.result c.from_residual-in_err-write_value.ensures.1 in
     rw (r.1, r.2) (failed g.row.S-Error.Denot g.S.FormatSerializer.made g.met.S.FormatSerializer.joins g.S.FormatSerializer.writing c.args.serializer.now c.field_key.new.serializer c.write_value.new.serializer _ _ _ item _ x refl c.in_err-write_value.ensures)
 
@@ -178,7 +178,7 @@ write_struct-fields-preserved g t c =
     let is = fields_at (writer (g.S.FormatSerializer.writing c.args.serializer.now).settings c.args.shapes.now) c.args.values.now k v (one_call end_struct) (drop_at _ k v c.fields-test.true c.index-values-at.is) fs f (drop_at fs k f within c.in-Some.ensures.lookup.1) in
     let item : Settings → Part = (λ s. calls_of (writer s c.args.shapes.now) f.shape.0 (tree_of v)) in
     let key = one_call (field_key (effective_name (field_of f))) in
-    let x = next g.row.S-Error.Denot g.S.FormatSerializer.made g.met.S.FormatSerializer.joins g.S.FormatSerializer.writing c.args.serializer.now c.fields.serializer c.field_key.new.serializer _ _ _ (λ s. key) _ c.fields.invariant.1 is (rw (c.written_name.ensures) at c.in_ok-field_key.ensures) in
+    let x = next g.row.S-Error.Denot g.S.FormatSerializer.made g.met.S.FormatSerializer.joins g.S.FormatSerializer.writing c.args.serializer.now c.fields.serializer c.field_key.new.serializer _ _ _ (λ s. key) _ c.fields.invariant.1 is (rw (c.effective_name.ensures) at c.in_ok-field_key.ensures) in
     (omega arith, next g.row.S-Error.Denot g.S.FormatSerializer.made g.met.S.FormatSerializer.joins g.S.FormatSerializer.writing c.args.serializer.now c.field_key.new.serializer c.write_value.new.serializer _ _ _ item _ x refl c.in_ok-write_value.ensures)
 
 pub write_struct-returns-then-fields-values : goal.write_struct-returns-then-fields-values
