@@ -40,3 +40,12 @@ kind_of (frame.Node p) = node_kind p.key
 abbrev pub is_option : FrameKind → Bool
 is_option kind.Option = true
 is_option _ = false
+
+-- a value can go into it
+abbrev pub takes_value : FrameKind → Bool
+takes_value kind.Items = true
+takes_value kind.Elements = true
+takes_value kind.KeyedItem = true
+takes_value kind.Field = true
+takes_value kind.ResultSide = true
+takes_value _ = false

@@ -2,6 +2,7 @@ pub mod Stops
 pub mod Tasks
 pub mod Passing
 pub mod Views
+pub mod Forms
 pub mod Kinds
 pub mod Statuses
 pub mod Keys

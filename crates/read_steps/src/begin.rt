@@ -17,6 +17,7 @@ ghost use Rattle.laws_machine.specs.Begins.{begin, begin_scalar, begin_result, b
 ghost use Rattle.read_steps.specs.Leaving.{inner_in};
 ghost use Rattle.read_steps.specs.Refusals.{fault_in};
 ghost use Rattle.read_steps.specs.Fits.{as_scalar};
+ghost use Rattle.read_steps.specs.Forms.{begin_form};
 ghost use Rattle.read_steps.specs.Stepping.{Goes, scalar_begun};
 ghost use Rattle.read_steps.specs.Stops.{told_stop, Gives, IsFault, IsOwn};
 ghost use Rattle.read_steps.specs.Tasks.{terms_of, fields_at};
@@ -28,6 +29,7 @@ use crate::fields::field_at;
 use crate::fits::{
     Begun, TupleForm, begin_of, fit_sequence_start, fit_struct_start, fit_tuple, is_nothing_event,
 };
+use crate::form::{Form, form_of};
 use crate::frames::{
     ArgumentKey, Frame, ItemsPart, Moved, Next, NodePart, ResultPart, StructPart, TuplePart,
 };
@@ -35,9 +37,9 @@ use crate::refusal::{too_deep, unexpected};
 use crate::scalar::set_value;
 use crate::stack::Stack;
 use crate::stop::ReadStop;
-use crate::task::{ItemsOf, Sides, Task, Wanted};
+use crate::task::{ItemsOf, Task, Wanted};
 use event_core::{ParseEvent, ScalarValue, Span};
-use shape_core::{Def, Items, ScalarType, ShapeId, StructKind, Value};
+use shape_core::{Def, Items, ScalarType, ShapeId, Value};
 
 /// Begins a part of this depth, behind what stood before the event.
 pub fn begin_part<'de>(
@@ -114,7 +116,6 @@ fn descend<'de>(
 }
 
 /// Begins a value that no part of it stands for.
-#[tactic(auto, using(crate::proofs::Begins::nothing_begins, crate::proofs::Begins::transparent_never, crate::proofs::Begins::tuple_is, crate::proofs::Begins::struct_is))]
 fn begin_here<'de>(
     task: &Task<'_, '_>,
     stack: &mut Stack<'de>,
@@ -126,40 +127,32 @@ fn begin_here<'de>(
     ensures exact { Gives told_stop (λ m. moved_of m (open_of (terms_of task.now) stack.new)) result (begin (terms_of task.now) (suc wanted.depth) wanted.shape.0 from_events (open_of (terms_of task.now) stack.old) (span_view before) (event_of event.old)) }
     ensures own { IfErr result (λ e. IsOwn (told_stop e)) }
 {
-    match task.shapes.definition_at(wanted.shape) {
-        Some(Def::Scalar(scalar)) => begin_scalar(task, stack, wanted.shape, *scalar, event),
-        Some(Def::Option(_)) => begin_nothing(task, stack),
-        Some(Def::Result { ok, err }) => {
-            let sides = Sides { ok: *ok, err: *err };
-            let part = ResultPart {
-                sides,
-                depth: wanted.depth,
-            };
-            begin_result(task, stack, part, event)
+    let form = form_of(task, wanted.shape);
+    begin_form(task, stack, form, wanted, event)
+}
+
+/// Begins a value of this form.
+fn begin_form<'de>(
+    task: &Task<'_, '_>,
+    stack: &mut Stack<'de>,
+    form: Form,
+    wanted: Wanted,
+    event: &mut ParseEvent<'de>,
+) -> Result<Moved<'de>, ReadStop<'de>>
+    ensures exact { Gives told_stop (λ m. moved_of m (open_of (terms_of task.now) stack.new)) result (begin_form form (terms_of task.now) wanted.shape wanted.depth (open_of (terms_of task.now) stack.old) (event_of event.old)) }
+    ensures own { IfErr result (λ e. IsOwn (told_stop e)) }
+{
+    match form {
+        Form::Scalar(scalar) => begin_scalar(task, stack, wanted.shape, scalar, event),
+        Form::Nothing => begin_nothing(task, stack),
+        Form::Result(sides) => {
+            let depth = wanted.depth;
+            begin_result(task, stack, ResultPart { sides, depth }, event)
         }
-        Some(Def::List(item)) => {
-            let of = ItemsOf {
-                item: *item,
-                len: None,
-            };
-            begin_items(task, stack, wanted, of, event)
-        }
-        Some(Def::Array { item, len }) => {
-            let of = ItemsOf {
-                item: *item,
-                len: Some(*len),
-            };
-            begin_items(task, stack, wanted, of, event)
-        }
-        Some(Def::Struct(def)) => match def.kind {
-            StructKind::Tuple | StructKind::TupleStruct => begin_tuple(task, stack, wanted, event),
-            StructKind::Unit | StructKind::Struct => begin_struct(task, stack, wanted, event),
-        },
-        Some(Def::Transparent(_)) => { Err(too_deep(task, stack, before)) }
-        Some(Def::Set(_)) => Err(unread(task, stack, event)),
-        Some(Def::Map { key: _, value: _ }) => Err(unread(task, stack, event)),
-        Some(Def::Enum(_)) => Err(unread(task, stack, event)),
-        None => Err(unread(task, stack, event)),
+        Form::Items(of) => begin_items(task, stack, wanted, of, event),
+        Form::Tuple => begin_tuple(task, stack, wanted, event),
+        Form::Object => begin_struct(task, stack, wanted, event),
+        Form::Unread => Err(unread(task, stack, event)),
     }
 }
 

@@ -12,6 +12,7 @@ mod fields;
 mod fill;
 mod filled;
 mod fits;
+mod form;
 mod frames;
 mod items;
 mod key;

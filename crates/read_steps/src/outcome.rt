@@ -85,7 +85,10 @@ pub fn step_end<'de>(
     let span = event.span;
     match fit_struct_end(Expected::ResultVariantEnd, event) {
         Ok(()) => end_result(task, stack, ok, held),
-        Err(unfit) => Err(unexpected(task, stack, unfit, span)),
+        Err(unfit) => {
+            drop(held);
+            Err(unexpected(task, stack, unfit, span))
+        }
     }
 }
 
