@@ -1,7 +1,7 @@
 use crate::tests::{AFTER_KEY, PLACE, full_key, made, name, name_key, owned_bytes, path, told};
 use event_core::{
-    ContainerKind, FieldEvidence, FieldKey, ParseEvent, ParseEventKind, PathSegment, ScalarValue,
-    ValueTypeHint,
+    ContainerKind, FieldEvidence, FieldKey, ParseEvent, ParseEventKind, Path, PathSegment,
+    ScalarValue, ValueTypeHint,
 };
 use shape_types::{OutOfMemory, Text};
 use std::alloc::Global;
@@ -13,13 +13,20 @@ fn same<T: PartialEq + Drop>(rt: &impl Abort, copy: Result<T, OutOfMemory>, valu
     assert!(rt; copy == value);
 }
 
+fn path_is_copied(rt: &impl Abort, alloc: Global, path: Path<'static>) {
+    same(rt, path.try_clone(alloc), path);
+}
+
+fn step_is_copied(rt: &impl Abort, alloc: Global, step: PathSegment<'static>) {
+    same(rt, step.try_clone(alloc), step);
+}
+
 #[test]
 fn paths_are_copied(rt: HostRuntime) {
     let alloc = rt.alloc();
-    let path = path(&rt, alloc);
-    same(&rt, path.try_clone(alloc), path);
+    path_is_copied(&rt, alloc, path(&rt, alloc));
     let step = PathSegment::Variant(Text::Owned(name(&rt, alloc, "Ok")));
-    same(&rt, step.try_clone(alloc), step);
+    step_is_copied(&rt, alloc, step);
 }
 
 #[test]
@@ -52,15 +59,21 @@ fn scalar_is_copied(rt: &impl Abort, alloc: Global, scalar: ScalarValue<'static>
     same(rt, scalar.try_clone(alloc), scalar);
 }
 
+fn scalar(rt: &impl Abort, alloc: Global, at: usize) -> ScalarValue<'static> {
+    match at {
+        0 => ScalarValue::Unit,
+        1 => ScalarValue::Char('c'),
+        2 => ScalarValue::I128(-6),
+        3 => ScalarValue::Str(Text::Owned(name(rt, alloc, "own"))),
+        _ => owned_bytes(rt, alloc),
+    }
+}
+
 #[test]
 fn scalars_are_copied(rt: HostRuntime) {
-    let alloc = rt.alloc();
-    scalar_is_copied(&rt, alloc, ScalarValue::Unit);
-    scalar_is_copied(&rt, alloc, ScalarValue::Char('c'));
-    scalar_is_copied(&rt, alloc, ScalarValue::I128(-6));
-    let text = Text::Owned(name(&rt, alloc, "own"));
-    scalar_is_copied(&rt, alloc, ScalarValue::Str(text));
-    scalar_is_copied(&rt, alloc, owned_bytes(&rt, alloc));
+    for at in 0..5 {
+        scalar_is_copied(&rt, rt.alloc(), scalar(&rt, rt.alloc(), at));
+    }
 }
 
 fn event_is_copied(rt: &impl Abort, alloc: Global, kind: ParseEventKind<'static>) {
@@ -72,14 +85,20 @@ fn event_is_copied(rt: &impl Abort, alloc: Global, kind: ParseEventKind<'static>
     same(rt, event.try_clone(alloc), event);
 }
 
+fn kind(at: usize) -> ParseEventKind<'static> {
+    match at {
+        0 => ParseEventKind::StructStart(ContainerKind::Object),
+        1 => ParseEventKind::FieldKey(name_key()),
+        2 => ParseEventKind::Scalar(ScalarValue::Null),
+        _ => ParseEventKind::VariantTag(Some("v")),
+    }
+}
+
 #[test]
 fn events_are_copied(rt: HostRuntime) {
-    let alloc = rt.alloc();
-    let start = ParseEventKind::StructStart(ContainerKind::Object);
-    event_is_copied(&rt, alloc, start);
-    event_is_copied(&rt, alloc, ParseEventKind::FieldKey(name_key()));
-    event_is_copied(&rt, alloc, ParseEventKind::Scalar(ScalarValue::Null));
-    event_is_copied(&rt, alloc, ParseEventKind::VariantTag(Some("v")));
+    for at in 0..4 {
+        event_is_copied(&rt, rt.alloc(), kind(at));
+    }
 }
 
 fn evidence_is_copied(
@@ -92,12 +111,18 @@ fn evidence_is_copied(
     same(rt, seen.try_clone(alloc), seen);
 }
 
-#[test]
-fn evidence_is_copied_with_its_value(rt: HostRuntime) {
-    let plain = FieldEvidence::new(Text::Borrowed("a"), AFTER_KEY, None);
-    evidence_is_copied(&rt, rt.alloc(), plain, false);
+fn plain_evidence() -> FieldEvidence<'static> {
+    FieldEvidence::new(Text::Borrowed("a"), AFTER_KEY, None)
+}
+
+fn full_evidence() -> FieldEvidence<'static> {
     let kind = Some(ValueTypeHint::Number);
     let number = ScalarValue::U64(7);
-    let seen = FieldEvidence::with_scalar_value(Text::Borrowed("a"), AFTER_KEY, kind, number);
-    evidence_is_copied(&rt, rt.alloc(), seen, true);
+    FieldEvidence::with_scalar_value(Text::Borrowed("a"), AFTER_KEY, kind, number)
+}
+
+#[test]
+fn evidence_is_copied_with_its_value(rt: HostRuntime) {
+    evidence_is_copied(&rt, rt.alloc(), plain_evidence(), false);
+    evidence_is_copied(&rt, rt.alloc(), full_evidence(), true);
 }

@@ -26,31 +26,41 @@ fn told(
     drop(scalar);
 }
 
-#[test]
-fn plain_scalars_are_told_as_texts(rt: HostRuntime) {
-    let alloc = rt.alloc();
-    told(&rt, alloc, ScalarValue::Unit, "unit", Some(""), "unit");
-    told(&rt, alloc, ScalarValue::Null, "null", Some("null"), "null");
-    let value = ScalarValue::Bool(true);
-    told(&rt, alloc, value, "bool", Some("true"), "bool(true)");
-    let value = ScalarValue::Char('é');
-    told(&rt, alloc, value, "char", Some("é"), "char(é)");
-    let value = ScalarValue::Str(Text::Borrowed("s"));
-    told(&rt, alloc, value, "string", Some("s"), "s");
-    told(&rt, alloc, owned_bytes(&rt, alloc), "bytes", None, "bytes");
+fn scalar(rt: &impl Abort, alloc: Global, at: usize) -> ScalarValue<'static> {
+    match at {
+        0 => ScalarValue::Unit,
+        1 => ScalarValue::Null,
+        2 => ScalarValue::Bool(true),
+        3 => ScalarValue::Char('é'),
+        4 => ScalarValue::Str(Text::Borrowed("s")),
+        5 => ScalarValue::I64(-5),
+        6 => ScalarValue::U64(7),
+        7 => ScalarValue::I128(-6),
+        8 => ScalarValue::U128(8),
+        _ => owned_bytes(rt, alloc),
+    }
 }
 
+/// The kind of each scalar, its text, and what it is shown as.
+static SCALARS: [(&str, Option<&str>, &str); 10] = [
+    ("unit", Some(""), "unit"),
+    ("null", Some("null"), "null"),
+    ("bool", Some("true"), "bool(true)"),
+    ("char", Some("é"), "char(é)"),
+    ("string", Some("s"), "s"),
+    ("i64", Some("-5"), "i64(-5)"),
+    ("u64", Some("7"), "u64(7)"),
+    ("i128", Some("-6"), "i128(-6)"),
+    ("u128", Some("8"), "u128(8)"),
+    ("bytes", None, "bytes"),
+];
+
 #[test]
-fn numbers_are_told_as_texts(rt: HostRuntime) {
+fn scalars_are_told_as_texts(rt: HostRuntime) {
     let alloc = rt.alloc();
-    let value = ScalarValue::I64(-5);
-    told(&rt, alloc, value, "i64", Some("-5"), "i64(-5)");
-    let value = ScalarValue::U64(7);
-    told(&rt, alloc, value, "u64", Some("7"), "u64(7)");
-    let value = ScalarValue::I128(-6);
-    told(&rt, alloc, value, "i128", Some("-6"), "i128(-6)");
-    let value = ScalarValue::U128(8);
-    told(&rt, alloc, value, "u128", Some("8"), "u128(8)");
+    for (at, (kind, text, display)) in SCALARS.iter().enumerate() {
+        told(&rt, alloc, scalar(&rt, alloc, at), kind, *text, display);
+    }
 }
 
 fn called(rt: &impl Abort, kind: ParseEventKind<'static>, word: &str) {
@@ -60,18 +70,35 @@ fn called(rt: &impl Abort, kind: ParseEventKind<'static>, word: &str) {
     drop(event);
 }
 
+fn kind(at: usize) -> ParseEventKind<'static> {
+    match at {
+        0 => ParseEventKind::StructStart(ContainerKind::Object),
+        1 => ParseEventKind::StructEnd,
+        2 => ParseEventKind::FieldKey(name_key()),
+        3 => ParseEventKind::OrderedField,
+        4 => ParseEventKind::SequenceStart(ContainerKind::Array),
+        5 => ParseEventKind::SequenceEnd,
+        6 => ParseEventKind::Scalar(ScalarValue::U64(7)),
+        _ => ParseEventKind::VariantTag(None),
+    }
+}
+
+static KINDS: [&str; 8] = [
+    "struct start",
+    "struct end",
+    "field key",
+    "ordered field",
+    "sequence start",
+    "sequence end",
+    "scalar",
+    "variant tag",
+];
+
 #[test]
 fn events_are_called_by_their_kind(rt: HostRuntime) {
-    let start = ParseEventKind::StructStart(ContainerKind::Object);
-    called(&rt, start, "struct start");
-    called(&rt, ParseEventKind::StructEnd, "struct end");
-    called(&rt, ParseEventKind::FieldKey(name_key()), "field key");
-    called(&rt, ParseEventKind::OrderedField, "ordered field");
-    let start = ParseEventKind::SequenceStart(ContainerKind::Array);
-    called(&rt, start, "sequence start");
-    called(&rt, ParseEventKind::SequenceEnd, "sequence end");
-    called(&rt, ParseEventKind::Scalar(ScalarValue::U64(7)), "scalar");
-    called(&rt, ParseEventKind::VariantTag(None), "variant tag");
+    for (at, word) in KINDS.iter().enumerate() {
+        called(&rt, kind(at), word);
+    }
 }
 
 #[test]
@@ -80,13 +107,20 @@ fn containers_have_names(rt: HostRuntime) {
     assert_eq!(rt; ContainerKind::Array.name(), "array");
 }
 
+fn shown_event(at: usize) -> ParseEvent<'static> {
+    match at {
+        0 => ParseEvent::new(ParseEventKind::Scalar(ScalarValue::U64(7)), PLACE),
+        _ => ParseEvent::new(ParseEventKind::VariantTag(Some("a")), PLACE),
+    }
+}
+
+static DEBUG_FORMS: [&str; 2] = ["Scalar(U64(7))@[3..7)", "VariantTag(Some(\"a\"))@[3..7)"];
+
 #[test]
 fn events_have_a_debug_form(rt: HostRuntime) {
-    let alloc = rt.alloc();
-    let event = ParseEvent::new(ParseEventKind::Scalar(ScalarValue::U64(7)), PLACE);
-    debugs(&rt, alloc, event, "Scalar(U64(7))@[3..7)");
-    let event = ParseEvent::new(ParseEventKind::VariantTag(Some("a")), PLACE);
-    debugs(&rt, alloc, event, "VariantTag(Some(\"a\"))@[3..7)");
+    for (at, want) in DEBUG_FORMS.iter().enumerate() {
+        debugs(&rt, rt.alloc(), shown_event(at), want);
+    }
 }
 
 /// Tells a tag.
@@ -112,13 +146,15 @@ fn has_tag(event: &ParseEvent<'_>, tag: &str) -> bool {
 #[test]
 fn an_event_is_told_a_tag(rt: HostRuntime) {
     let event = ParseEvent::new(ParseEventKind::StructEnd, PLACE).with_meta(with_tag);
-    assert!(rt; has_tag(&event, "t"));
+    let has_tag = has_tag(&event, "t");
     drop(event);
+    assert!(rt; has_tag);
 }
 
 #[test]
 fn an_event_that_is_told_nothing_has_no_metadata(rt: HostRuntime) {
     let event = ParseEvent::new(ParseEventKind::StructEnd, PLACE).with_meta(with_nothing);
-    assert!(rt; event.meta.is_none());
+    let is_bare = event.meta.is_none();
     drop(event);
+    assert!(rt; is_bare);
 }

@@ -1,6 +1,7 @@
 use crate::tests::{AFTER_KEY, full_key, lines, made, name_key};
 use event_core::{FieldKey, FieldLocationHint};
 use shape_types::{Items, Text};
+use std::alloc::Global;
 use std::process::Abort;
 
 /// The text is this one, where there is one.
@@ -35,48 +36,93 @@ const X: Text<'static> = Text::Borrowed("x");
 
 const T: Text<'static> = Text::Borrowed("t");
 
+/// A key with a name.
+fn name_with(rt: &impl Abort, alloc: Global, at: usize) -> FieldKey<'static> {
+    match at {
+        0 => FieldKey::new(X, AFTER_KEY),
+        1 => made(
+            rt,
+            FieldKey::with_doc(alloc, X, AFTER_KEY, lines(rt, alloc)),
+        ),
+        2 => made(rt, FieldKey::tagged_with_name(alloc, T, X, AFTER_KEY)),
+        _ => full_key(rt, alloc),
+    }
+}
+
+/// The name of a key, its tag, and its first line of documentation.
+type Parts = (
+    Option<&'static str>,
+    Option<&'static str>,
+    Option<&'static str>,
+);
+
+static NAMES: [Parts; 4] = [
+    (Some("x"), None, None),
+    (Some("x"), None, Some("one")),
+    (Some("x"), Some("t"), None),
+    (Some("a"), Some("t"), Some("one")),
+];
+
 #[test]
 fn names_hold_what_they_are_made_with(rt: HostRuntime) {
     let alloc = rt.alloc();
-    holds(&rt, FieldKey::new(X, AFTER_KEY), Some("x"), None, None);
-    let lines = lines(&rt, alloc);
-    let key = made(&rt, FieldKey::with_doc(alloc, X, AFTER_KEY, lines));
-    holds(&rt, key, Some("x"), None, Some("one"));
-    let key = made(&rt, FieldKey::tagged_with_name(alloc, T, X, AFTER_KEY));
-    holds(&rt, key, Some("x"), Some("t"), None);
-    holds(&rt, full_key(&rt, alloc), Some("a"), Some("t"), Some("one"));
+    for (at, (name, tag, line)) in NAMES.iter().enumerate() {
+        holds(&rt, name_with(&rt, alloc, at), *name, *tag, *line);
+    }
 }
+
+/// A key with a tag, that of a unit last.
+fn tag_with(rt: &impl Abort, alloc: Global, at: usize) -> FieldKey<'static> {
+    match at {
+        0 => made(rt, FieldKey::tagged(alloc, T, AFTER_KEY)),
+        1 => made(
+            rt,
+            FieldKey::tagged_with_doc(alloc, T, AFTER_KEY, lines(rt, alloc)),
+        ),
+        2 => made(rt, FieldKey::unit(alloc, AFTER_KEY)),
+        _ => made(
+            rt,
+            FieldKey::unit_with_doc(alloc, AFTER_KEY, lines(rt, alloc)),
+        ),
+    }
+}
+
+static TAGS: [Parts; 4] = [
+    (None, Some("t"), None),
+    (None, Some("t"), Some("one")),
+    (None, Some(""), None),
+    (None, Some(""), Some("one")),
+];
 
 #[test]
 fn tags_hold_what_they_are_made_with(rt: HostRuntime) {
     let alloc = rt.alloc();
-    let key = made(&rt, FieldKey::tagged(alloc, T, AFTER_KEY));
-    holds(&rt, key, None, Some("t"), None);
-    let told = lines(&rt, alloc);
-    let key = made(&rt, FieldKey::tagged_with_doc(alloc, T, AFTER_KEY, told));
-    holds(&rt, key, None, Some("t"), Some("one"));
+    for (at, (name, tag, line)) in TAGS.iter().enumerate() {
+        holds(&rt, tag_with(&rt, alloc, at), *name, *tag, *line);
+    }
+}
+
+fn empty_tag(rt: &impl Abort, alloc: Global) -> FieldKey<'static> {
+    made(rt, FieldKey::tagged(alloc, Text::Borrowed(""), AFTER_KEY))
 }
 
 #[test]
 fn a_unit_has_the_empty_tag(rt: HostRuntime) {
     let alloc = rt.alloc();
-    let unit = made(&rt, FieldKey::unit(alloc, AFTER_KEY));
-    holds(&rt, unit, None, Some(""), None);
-    let unit = made(&rt, FieldKey::unit(alloc, AFTER_KEY));
-    let tagged = made(&rt, FieldKey::tagged(alloc, Text::Borrowed(""), AFTER_KEY));
-    compares(&rt, unit, tagged, true);
-    let told = lines(&rt, alloc);
-    let unit = made(&rt, FieldKey::unit_with_doc(alloc, AFTER_KEY, told));
-    holds(&rt, unit, None, Some(""), Some("one"));
+    let unit = tag_with(&rt, alloc, 2);
+    compares(&rt, unit, empty_tag(&rt, alloc), true);
+}
+
+fn without_lines(rt: &impl Abort, alloc: Global) -> FieldKey<'static> {
+    made(
+        rt,
+        FieldKey::with_doc(alloc, X, AFTER_KEY, Items::new(alloc)),
+    )
 }
 
 #[test]
 fn a_name_without_a_line_is_a_name_alone(rt: HostRuntime) {
-    let alloc = rt.alloc();
-    let plain = made(
-        &rt,
-        FieldKey::with_doc(alloc, X, AFTER_KEY, Items::new(alloc)),
-    );
+    let plain = without_lines(&rt, rt.alloc());
     compares(&rt, plain, FieldKey::new(X, AFTER_KEY), true);
     compares(&rt, name_key(), FieldKey::new(X, AFTER_KEY), false);
 }
