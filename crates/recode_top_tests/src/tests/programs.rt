@@ -1,4 +1,5 @@
 //! Statuses that no case of a file can ask for.
+use crate::tests::assert_row;
 use recode_top::{MemorySink, MemorySource, Words, out_of_memory, run};
 use shape_core::{Items, OutOfMemory};
 use std::alloc::Global;
@@ -34,9 +35,11 @@ fn an_input_is_read_up_to_the_limit(rt: HostRuntime) -> Result<(), Fail> {
 }
 
 #[test]
-fn want_of_memory_has_a_status(rt: HostRuntime) -> Result<(), Fail> {
+fn want_of_memory_has_a_status(rt: HostRuntime) -> Result<(), OutOfMemory> {
     let mut notes = notes(rt.alloc())?;
-    assert_eq!(rt; out_of_memory(&mut notes), 6);
-    assert_eq!(rt; notes.as_slice(), b"error: out of memory\n".as_slice());
+    let status = out_of_memory(&mut notes);
+    let is_said = notes.as_slice() == b"error: out of memory\n".as_slice();
+    drop(notes);
+    assert_row(&rt, 0, status == 6 && is_said);
     Ok(())
 }
