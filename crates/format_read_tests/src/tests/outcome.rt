@@ -3,16 +3,13 @@ ghost use Rattle.std.specs.Prelude.{◌≡◌, ◌<◌, length};
 ghost use Rattle.shape_types.specs.Shapes.{registry};
 
 use crate::tests::listed::Listed;
-use crate::tests::registry::{NUMBERS, POINT, U64};
-use crate::tests::told::{numbers, point, points};
+use crate::tests::told::is_told;
 use event_core::{
-    DeserializeError, DeserializeErrorKind, ParseEvent, ParseEventKind, ReflectErrorKind,
-    ScalarValue, Span,
+    DeserializeError, DeserializeErrorKind, ParseEvent, ParseEventKind, Path, PathSegment,
+    ReflectErrorKind, ScalarValue, Span,
 };
 use format_read::FormatDeserializer;
-use shape_core::{OutOfMemory, ShapeId, Text, Value};
-use std::alloc::Global;
-use std::test::Fail;
+use shape_core::{ShapeId, Text, Value};
 
 pub type Reader<'parser, 'de, 's, 'v> = FormatDeserializer<'parser, 'de, 's, 'v, Listed<'de>, 1>;
 
@@ -45,32 +42,19 @@ pub struct Refusal {
     pub part: Part,
 }
 
-/// What a call for a value answers.
+/// What a call for a value or for an event answers.
 #[derive(Debug, Clone, Copy, PartialEq, Eq)]
 pub enum Outcome {
     /// The value of its shape that the events tell.
     Read,
     /// Another value.
     ReadOther,
-    Refused(Refusal),
-}
-
-/// What a call for an event answers.
-#[derive(Debug, Clone, Copy, PartialEq, Eq)]
-pub enum Next {
+    /// The event of a number.
     Number(u64, Span),
-    Other,
+    /// Another event.
+    OtherEvent,
     End,
     Refused(Refusal),
-}
-
-/// A refusal at no part of a value.
-pub fn at_end(cause: Cause, span: Option<Span>) -> Refusal {
-    Refusal {
-        cause,
-        span,
-        part: Part::None,
-    }
 }
 
 fn cause_of(kind: &DeserializeErrorKind<'_>) -> Cause {
@@ -94,97 +78,73 @@ fn unexpected(got: &Text<'_>, expected: &str) -> Cause {
     Cause::Other
 }
 
-fn part_of(alloc: Global, error: &DeserializeError<'_>) -> Result<Part, Fail> {
-    let Some(path) = &error.path else {
-        return Ok(Part::None);
-    };
-    let text = format!(in alloc; "{path}")?;
-    if text.as_str() == ".x" {
-        return Ok(Part::X);
+fn part_of(path: Option<&Path<'_>>) -> Part {
+    match path {
+        Some(path) => part_at(path.steps()),
+        None => Part::None,
     }
-    Ok(Part::Other)
+}
+
+fn part_at(steps: &[PathSegment<'_>]) -> Part {
+    match steps {
+        [PathSegment::Field(name)] if name.as_str() == "x" => Part::X,
+        _ => Part::Other,
+    }
 }
 
 /// Why a call was refused.
-fn refusal_of(alloc: Global, error: &DeserializeError<'_>) -> Result<Refusal, Fail> {
-    let part = part_of(alloc, error)?;
-    Ok(Refusal {
+fn refusal_of(error: &DeserializeError<'_>) -> Refusal {
+    Refusal {
         cause: cause_of(&error.kind),
         span: error.span,
-        part,
-    })
+        part: part_of(error.path()),
+    }
 }
 
-/// The value of a shape that the events tell.
-fn wanted<'de>(alloc: Global, root: ShapeId) -> Result<Value<'de>, OutOfMemory> {
-    if root == U64 {
-        return Ok(Value::Unsigned(1));
+fn told_value(root: ShapeId, value: &Value<'_>) -> Outcome {
+    if is_told(root, value) {
+        return Outcome::Read;
     }
-    if root == POINT {
-        return point(alloc, 1, 2);
-    }
-    if root == NUMBERS {
-        return numbers(alloc);
-    }
-    points(alloc)
+    Outcome::ReadOther
 }
 
-fn told_value(alloc: Global, root: ShapeId, value: &Value<'_>) -> Result<Outcome, Fail> {
-    if is_wanted(alloc, root, value)? {
-        return Ok(Outcome::Read);
-    }
-    Ok(Outcome::ReadOther)
-}
-
-fn is_wanted(alloc: Global, root: ShapeId, value: &Value<'_>) -> Result<bool, OutOfMemory> {
-    let wanted = wanted(alloc, root)?;
-    Ok(*value == wanted)
-}
-
-fn told_answer(
-    alloc: Global,
-    root: ShapeId,
-    answer: &Result<Value<'_>, DeserializeError<'_>>,
-) -> Result<Outcome, Fail> {
+fn told_answer(root: ShapeId, answer: &Result<Value<'_>, DeserializeError<'_>>) -> Outcome {
     match answer {
-        Ok(value) => told_value(alloc, root, value),
-        Err(error) => Ok(Outcome::Refused(refusal_of(alloc, error)?)),
+        Ok(value) => told_value(root, value),
+        Err(error) => Outcome::Refused(refusal_of(error)),
     }
 }
 
 /// Asks for the next value of a shape.
-pub fn outcome_of(
-    alloc: Global,
-    reader: &mut Reader<'_, '_, '_, '_>,
-    root: ShapeId,
-) -> Result<Outcome, Fail>
+pub fn outcome_of(reader: &mut Reader<'_, '_, '_, '_>, root: ShapeId) -> Outcome
     requires { root.0 < length (registry reader.old.plans.now.shapes.now) }
     ensures same { registry reader.new.plans.now.shapes.now ≡ registry reader.old.plans.now.shapes.now }
 {
     let answer = reader.deserialize_value(root);
-    told_answer(alloc, root, &answer)
+    let outcome = told_answer(root, &answer);
+    drop(answer);
+    outcome
 }
 
-fn told_event(event: &ParseEvent<'_>) -> Next {
+fn told_event(event: &ParseEvent<'_>) -> Outcome {
     match &event.kind {
-        ParseEventKind::Scalar(ScalarValue::U64(number)) => Next::Number(*number, event.span),
-        _ => Next::Other,
+        ParseEventKind::Scalar(ScalarValue::U64(number)) => Outcome::Number(*number, event.span),
+        _ => Outcome::OtherEvent,
     }
 }
 
-fn told_next(
-    alloc: Global,
-    answer: &Result<Option<ParseEvent<'_>>, DeserializeError<'_>>,
-) -> Result<Next, Fail> {
+fn told_next(answer: &Result<Option<ParseEvent<'_>>, DeserializeError<'_>>) -> Outcome {
     match answer {
-        Ok(Some(event)) => Ok(told_event(event)),
-        Ok(None) => Ok(Next::End),
-        Err(error) => Ok(Next::Refused(refusal_of(alloc, error)?)),
+        Ok(Some(event)) => told_event(event),
+        Ok(None) => Outcome::End,
+        Err(error) => Outcome::Refused(refusal_of(error)),
     }
 }
 
 /// Asks for the next event.
-pub fn next_of(alloc: Global, reader: &mut Reader<'_, '_, '_, '_>) -> Result<Next, Fail> {
+pub fn next_of(reader: &mut Reader<'_, '_, '_, '_>) -> Outcome {
     let answer = reader.finish_input();
-    told_next(alloc, &answer)
+    let outcome = told_next(&answer);
+    drop(answer);
+    outcome
 }

@@ -1,11 +1,11 @@
 //! Events, told in a short form, and values.
+use crate::tests::registry::{NUMBERS, POINT, U64};
 use event_core::{
     ContainerKind, FieldKey, FieldLocationHint, ParseEvent, ParseEventKind, ScalarValue, Span,
 };
-use shape_core::{Items, OutOfMemory, Text, Value};
+use shape_core::{OutOfMemory, ShapeId, Text, Value};
 use std::alloc::Global;
 use std::collections::VecDeque;
-use std::test::Fail;
 
 /// An event.
 #[derive(Clone, Copy)]
@@ -107,42 +107,96 @@ pub fn span_at(place: usize) -> Span {
     }
 }
 
+fn event_at<'de>(place: usize, word: Word) -> ParseEvent<'de> {
+    ParseEvent::new(kind_of(word), span_at(place))
+}
+
+fn push_all<'de>(
+    events: &mut VecDeque<ParseEvent<'de>>,
+    words: &[Word],
+    count: usize,
+) -> Result<(), OutOfMemory> {
+    for (place, word) in words.iter().enumerate() {
+        if place < count {
+            events.push_back(event_at(place, *word))?;
+        }
+    }
+    Ok(())
+}
+
 /// The first of these events.
 pub fn events<'de>(
     alloc: Global,
     words: &[Word],
     count: usize,
-) -> Result<VecDeque<ParseEvent<'de>>, Fail> {
+) -> Result<VecDeque<ParseEvent<'de>>, OutOfMemory> {
     let mut events = VecDeque::new(alloc);
-    for (place, word) in words.iter().enumerate() {
-        if place < count {
-            events.push_back(ParseEvent::new(kind_of(*word), span_at(place)))?;
+    match push_all(&mut events, words, count) {
+        Ok(()) => Ok(events),
+        Err(refused) => {
+            drop(events);
+            Err(refused)
         }
     }
-    Ok(events)
 }
 
-/// A point.
-pub fn point<'de>(alloc: Global, x: u128, y: u128) -> Result<Value<'de>, OutOfMemory> {
-    let mut fields = Items::new(alloc);
-    fields.push(Value::Unsigned(x))?;
-    fields.push(Value::Unsigned(y))?;
-    Ok(Value::Struct(fields))
-}
-
-/// The value of the list of two points.
-pub fn points<'de>(alloc: Global) -> Result<Value<'de>, OutOfMemory> {
-    let mut items = Items::new(alloc);
-    items.push(point(alloc, 1, 2)?)?;
-    items.push(point(alloc, 3, 4)?)?;
-    Ok(Value::List(items))
-}
-
-/// The value of the list of six numbers.
-pub fn numbers<'de>(alloc: Global) -> Result<Value<'de>, OutOfMemory> {
-    let mut items = Items::new(alloc);
-    for number in [1, 2, 3, 4, 5, 6] {
-        items.push(Value::Unsigned(number))?;
+fn is_number(value: &Value<'_>, want: u128) -> bool {
+    match value {
+        Value::Unsigned(number) => *number == want,
+        _ => false,
     }
-    Ok(Value::List(items))
+}
+
+fn are_numbers(values: &[Value<'_>], want: &[u128]) -> bool {
+    if values.len() != want.len() {
+        return false;
+    }
+    for (value, number) in values.iter().zip(want) {
+        if !is_number(value, *number) {
+            return false;
+        }
+    }
+    true
+}
+
+fn is_point(value: &Value<'_>, x: u128, y: u128) -> bool {
+    match value {
+        Value::Struct(fields) => are_numbers(fields.as_slice(), &[x, y]),
+        _ => false,
+    }
+}
+
+fn are_points(values: &[Value<'_>]) -> bool {
+    match values {
+        [first, second] => is_point(first, 1, 2) && is_point(second, 3, 4),
+        _ => false,
+    }
+}
+
+fn is_list_of_points(value: &Value<'_>) -> bool {
+    match value {
+        Value::List(items) => are_points(items.as_slice()),
+        _ => false,
+    }
+}
+
+fn is_list_of_numbers(value: &Value<'_>) -> bool {
+    match value {
+        Value::List(items) => are_numbers(items.as_slice(), &[1, 2, 3, 4, 5, 6]),
+        _ => false,
+    }
+}
+
+/// This is the value of the shape that the events tell.
+pub fn is_told(root: ShapeId, value: &Value<'_>) -> bool {
+    if root == U64 {
+        return is_number(value, 1);
+    }
+    if root == POINT {
+        return is_point(value, 1, 2);
+    }
+    if root == NUMBERS {
+        return is_list_of_numbers(value);
+    }
+    is_list_of_points(value)
 }
