@@ -4,5 +4,7 @@ mod asking;
 mod behind;
 mod listed;
 mod outcome;
+mod refused;
 mod registry;
+mod row;
 mod told;
