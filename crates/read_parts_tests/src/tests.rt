@@ -1,3 +1,7 @@
+mod numbers;
+mod read;
+mod simple;
+
 use event_core::ScalarValue;
 use read_parts::scalar_value;
 use shape_core::{Bytes, Name, ScalarType, ShapeId, Shapes, ShapesBuilder, Text};
@@ -61,16 +65,6 @@ fn answer(
     )
 }
 
-/// What the row says of the type of this number.
-fn want_at(row: &[Answers], at: usize) -> Option<Want> {
-    for (first, last, want) in row {
-        if *first <= at && at <= *last {
-            return Some(*want);
-        }
-    }
-    None
-}
-
 /// What is printed where this is wanted.
 fn wanted(rt: &impl Abort, alloc: Global, want: Option<Want>, name: &str, event: &str) -> String {
     let text = match want {
@@ -85,269 +79,95 @@ fn wanted(rt: &impl Abort, alloc: Global, want: Option<Want>, name: &str, event:
     text.expect(rt, "memory")
 }
 
-/// The event gives this to the type, where borrowed texts stay so or not.
+/// What the row says of the type of this number.
+fn want_at(row: &[Answers], at: usize) -> Option<Want> {
+    for (first, last, want) in row.iter() {
+        if *first <= at && at <= *last {
+            return Some(*want);
+        }
+    }
+    None
+}
+
+/// The scalar of an event.
+#[derive(Clone, Copy)]
+enum Scalar {
+    Null,
+    Unit,
+    Bool(bool),
+    Char(char),
+    Bytes(&'static [u8]),
+    U64(u64),
+    I64(i64),
+    U128(u128),
+    I128(i128),
+    /// A text that is borrowed.
+    Lent(&'static str),
+    /// A text in memory of its own.
+    Own(&'static str),
+}
+
+/// The text, in memory of its own.
+fn own(rt: &impl Abort, alloc: Global, text: &str) -> ScalarValue<'static> {
+    let name = Name::copy(alloc, text).expect(rt, "memory");
+    ScalarValue::Str(Text::Owned(name))
+}
+
+fn scalar_of(rt: &impl Abort, alloc: Global, scalar: Scalar) -> ScalarValue<'static> {
+    match scalar {
+        Scalar::Null => ScalarValue::Null,
+        Scalar::Unit => ScalarValue::Unit,
+        Scalar::Bool(told) => ScalarValue::Bool(told),
+        Scalar::Char(letter) => ScalarValue::Char(letter),
+        Scalar::Bytes(bytes) => ScalarValue::Bytes(Bytes::Borrowed(bytes)),
+        Scalar::U64(number) => ScalarValue::U64(number),
+        Scalar::I64(number) => ScalarValue::I64(number),
+        Scalar::U128(number) => ScalarValue::U128(number),
+        Scalar::I128(number) => ScalarValue::I128(number),
+        Scalar::Lent(text) => ScalarValue::Str(Text::Borrowed(text)),
+        Scalar::Own(text) => own(rt, alloc, text),
+    }
+}
+
+/// An event, whether borrowed texts stay so, and what that gives over all types.
+type Row = (Scalar, bool, &'static [Answers]);
+
+/// Both texts are the same.
+fn assert_text(rt: &impl Abort, found: String, want: String) {
+    assert_eq!(rt; found.as_str(), want.as_str());
+    drop(found);
+    drop(want);
+}
+
+/// The event gives this to the type.
 fn gives_type(
     rt: &impl Abort,
     alloc: Global,
     shapes: &Shapes<'static>,
     target: ScalarType,
-    scalar: &ScalarValue<'static>,
-    borrow: bool,
+    row: &Row,
     want: Option<Want>,
 ) {
-    let copy = scalar.try_clone(alloc).expect(rt, "memory");
-    let answer = answer(rt, alloc, shapes, target, copy, borrow);
+    let (scalar, borrow, _) = *row;
+    let scalar = scalar_of(rt, alloc, scalar);
     let want = wanted(rt, alloc, want, target.name(), scalar.kind_name());
-    assert_eq!(rt; answer.as_str(), want.as_str());
+    let found = answer(rt, alloc, shapes, target, scalar, borrow);
+    assert_text(rt, found, want);
 }
 
-/// The event gives this row over all types, where borrowed texts stay so or not.
-fn gives(
-    rt: &impl Abort,
-    alloc: Global,
-    scalar: ScalarValue<'static>,
-    borrow: bool,
-    row: &[Answers],
-) {
-    let shapes = registry(rt, alloc);
+/// The event gives this row over all types.
+fn gives(rt: &impl Abort, alloc: Global, shapes: &Shapes<'static>, row: &Row) {
+    let (_, _, answers) = *row;
     for (at, target) in ScalarType::ALL.iter().enumerate() {
-        let want = want_at(row, at);
-        gives_type(rt, alloc, &shapes, *target, &scalar, borrow, want);
+        gives_type(rt, alloc, shapes, *target, row, want_at(answers, at));
     }
-    drop(shapes);
-    drop(scalar);
 }
 
-const DEFAULTS: [Answers; 6] = [
-    (0, 0, Want::Is("Unit")),
-    (1, 1, Want::Is("Bool(false)")),
-    (2, 2, Want::Is("Char('\\0')")),
-    (3, 8, Want::Is("Unsigned(0)")),
-    (9, 14, Want::Is("Signed(0)")),
-    (15, 16, Want::Is("Text(Owned(Name { text: \"\" }))")),
-];
-
-#[test]
-fn nothing_gives_defaults(rt: HostRuntime) {
-    gives(&rt, rt.alloc(), ScalarValue::Null, true, &DEFAULTS);
-    gives(&rt, rt.alloc(), ScalarValue::Unit, false, &DEFAULTS);
-}
-
-#[test]
-fn simple_events_are_set_into_their_own_types(rt: HostRuntime) {
-    let alloc = rt.alloc();
-    let told = [(1, 1, Want::Is("Bool(true)"))];
-    gives(&rt, alloc, ScalarValue::Bool(true), true, &told);
-    let letter = [(2, 2, Want::Is("Char('x')"))];
-    gives(&rt, alloc, ScalarValue::Char('x'), true, &letter);
-    let bytes = ScalarValue::Bytes(Bytes::Borrowed(&[1]));
-    gives(&rt, alloc, bytes, true, &[]);
-}
-
-/// What 300 gives to numbers.
-const THREE_HUNDRED: [Answers; 4] = [
-    (3, 3, Want::OutOfRange("300")),
-    (4, 8, Want::Is("Unsigned(300)")),
-    (9, 9, Want::OutOfRange("300")),
-    (10, 14, Want::Is("Signed(300)")),
-];
-
-/// What 300 of 64 bits gives to numbers and to texts.
-const THREE_HUNDRED_OR_TEXT: [Answers; 5] = [
-    (3, 3, Want::OutOfRange("300")),
-    (4, 8, Want::Is("Unsigned(300)")),
-    (9, 9, Want::OutOfRange("300")),
-    (10, 14, Want::Is("Signed(300)")),
-    (15, 15, Want::Is("Text(Owned(Name { text: \"300\" }))")),
-];
-
-/// What -1 gives to numbers.
-const MINUS_ONE: [Answers; 2] = [
-    (3, 8, Want::OutOfRange("-1")),
-    (9, 14, Want::Is("Signed(-1)")),
-];
-
-/// What -1 of 64 bits gives to numbers and to texts.
-const MINUS_ONE_OR_TEXT: [Answers; 3] = [
-    (3, 8, Want::OutOfRange("-1")),
-    (9, 14, Want::Is("Signed(-1)")),
-    (15, 15, Want::Is("Text(Owned(Name { text: \"-1\" }))")),
-];
-
-#[test]
-fn numbers_are_set_in_range(rt: HostRuntime) {
-    let alloc = rt.alloc();
-    gives(
-        &rt,
-        alloc,
-        ScalarValue::U64(300),
-        true,
-        &THREE_HUNDRED_OR_TEXT,
-    );
-    gives(
-        &rt,
-        alloc,
-        ScalarValue::I64(300),
-        true,
-        &THREE_HUNDRED_OR_TEXT,
-    );
-    gives(&rt, alloc, ScalarValue::U128(300), true, &THREE_HUNDRED);
-    gives(&rt, alloc, ScalarValue::I64(-1), true, &MINUS_ONE_OR_TEXT);
-    gives(&rt, alloc, ScalarValue::I128(-1), true, &MINUS_ONE);
-}
-
-/// What 2 to the power of 127 gives to numbers.
-const WIDE: [Answers; 3] = [
-    (
-        3,
-        6,
-        Want::OutOfRange("170141183460469231731687303715884105728"),
-    ),
-    (
-        7,
-        7,
-        Want::Is("Unsigned(170141183460469231731687303715884105728)"),
-    ),
-    (
-        8,
-        14,
-        Want::OutOfRange("170141183460469231731687303715884105728"),
-    ),
-];
-
-/// What its negative gives to numbers.
-const WIDE_BELOW: [Answers; 3] = [
-    (
-        3,
-        12,
-        Want::OutOfRange("-170141183460469231731687303715884105728"),
-    ),
-    (
-        13,
-        13,
-        Want::Is("Signed(-170141183460469231731687303715884105728)"),
-    ),
-    (
-        14,
-        14,
-        Want::OutOfRange("-170141183460469231731687303715884105728"),
-    ),
-];
-
-#[test]
-fn numbers_keep_all_bits(rt: HostRuntime) {
-    gives(&rt, rt.alloc(), ScalarValue::U128(1 << 127), true, &WIDE);
-    gives(
-        &rt,
-        rt.alloc(),
-        ScalarValue::I128(i128::MIN),
-        true,
-        &WIDE_BELOW,
-    );
-}
-
-/// What the borrowed text `7` gives where it may stay borrowed.
-const LENT: [Answers; 5] = [
-    (1, 1, Want::Unread("7")),
-    (2, 2, Want::Is("Char('7')")),
-    (3, 8, Want::Is("Unsigned(7)")),
-    (9, 14, Want::Is("Signed(7)")),
-    (15, 16, Want::Is("Text(Borrowed(\"7\"))")),
-];
-
-/// What the text `7` gives where it isn't borrowed or may not stay so.
-const OWNED: [Answers; 6] = [
-    (1, 1, Want::Unread("7")),
-    (2, 2, Want::Is("Char('7')")),
-    (3, 8, Want::Is("Unsigned(7)")),
-    (9, 14, Want::Is("Signed(7)")),
-    (15, 15, Want::Is("Text(Owned(Name { text: \"7\" }))")),
-    (16, 16, Want::Unlent),
-];
-
-/// The text `7`, in memory of its own.
-fn own(rt: &impl Abort, alloc: Global) -> ScalarValue<'static> {
-    let name = Name::copy(alloc, "7").expect(rt, "memory");
-    ScalarValue::Str(Text::Owned(name))
-}
-
-#[test]
-fn texts_are_set_and_read(rt: HostRuntime) {
-    let alloc = rt.alloc();
-    let lent = ScalarValue::Str(Text::Borrowed("7"));
-    gives(&rt, alloc, lent, true, &LENT);
-    let lent = ScalarValue::Str(Text::Borrowed("7"));
-    gives(&rt, alloc, lent, false, &OWNED);
-    gives(&rt, alloc, own(&rt, alloc), true, &OWNED);
-    gives(&rt, alloc, own(&rt, alloc), false, &OWNED);
-}
-
-/// A type's number, a text, and the value that it is read as, if any.
-const READ: [(usize, &'static str, Option<&'static str>); 28] = [
-    (1, "true", Some("Bool(true)")),
-    (1, "false", Some("Bool(false)")),
-    (1, "True", None),
-    (1, "", None),
-    (2, "é", Some("Char('é')")),
-    (2, "ab", None),
-    (2, "", None),
-    (3, "255", Some("Unsigned(255)")),
-    (3, "256", None),
-    (3, "+005", Some("Unsigned(5)")),
-    (3, "-5", None),
-    (3, "-0", None),
-    (3, "+", None),
-    (3, "++1", None),
-    (3, "", None),
-    (3, "1 ", None),
-    (3, "0x1", None),
-    (
-        7,
-        "340282366920938463463374607431768211455",
-        Some("Unsigned(340282366920938463463374607431768211455)"),
-    ),
-    (7, "340282366920938463463374607431768211456", None),
-    (9, "-128", Some("Signed(-128)")),
-    (9, "-129", None),
-    (9, "128", None),
-    (12, "+05", Some("Signed(5)")),
-    (12, "-0", Some("Signed(0)")),
-    (12, "-", None),
-    (
-        13,
-        "-170141183460469231731687303715884105728",
-        Some("Signed(-170141183460469231731687303715884105728)"),
-    ),
-    (13, "-170141183460469231731687303715884105729", None),
-    (13, "170141183460469231731687303715884105728", None),
-];
-
-/// The text is read as this value at the type, or as none.
-fn reads(
-    rt: &impl Abort,
-    alloc: Global,
-    shapes: &Shapes<'static>,
-    target: ScalarType,
-    text: &'static str,
-    value: Option<&'static str>,
-) {
-    let want = match value {
-        Some(value) => Want::Is(value),
-        None => Want::Unread(text),
-    };
-    let scalar = ScalarValue::Str(Text::Borrowed(text));
-    let answer = answer(rt, alloc, shapes, target, scalar, true);
-    let want = wanted(rt, alloc, Some(want), target.name(), "string");
-    assert_eq!(rt; answer.as_str(), want.as_str());
-}
-
-#[test]
-fn texts_are_read_by_their_rule(rt: HostRuntime) {
-    let alloc = rt.alloc();
-    let shapes = registry(&rt, alloc);
-    for (at, text, value) in READ.iter() {
-        let target = ScalarType::ALL.get(*at).expect(&rt, "a type");
-        reads(&rt, alloc, &shapes, *target, text, *value);
+/// Each event gives its row.
+fn give(rt: &impl Abort, alloc: Global, rows: &[Row]) {
+    let shapes = registry(rt, alloc);
+    for row in rows.iter() {
+        gives(rt, alloc, &shapes, row);
     }
     drop(shapes);
 }
