@@ -11,15 +11,14 @@ use format_traits::FormatSerializer;
 use format_write::{SerializeContext, serialize_root};
 use recorder::{Broken, Recorder, note};
 use samples::{Leaf, Made, shapes, value};
-use shape_core::{ShapeId, Shapes, Value};
+use shape_core::{OutOfMemory, ShapeId, Shapes, Value};
 use std::alloc::Global;
 use std::process::Abort;
-use std::test::*;
 
 /// The name of a shape, a value and the calls that are made. Behind those that end in `!` a part without a form comes.
 type Row = (&'static str, Made, &'static str);
 
-const STOPPED: [Row; 11] = [
+static STOPPED: [Row; 11] = [
     ("u8", Made::Leaf(Leaf::Unsigned(256)), "!"),
     ("i8", Made::Leaf(Leaf::Signed(-129)), "!"),
     ("i8", Made::Leaf(Leaf::Signed(128)), "!"),
@@ -74,53 +73,92 @@ fn write(
 }
 
 /// The number of the shape of a name.
-fn shape_of(shapes: &Shapes, name: &str) -> Result<ShapeId, Fail> {
-    match shapes.find(name) {
-        Some(shape) => Ok(shape),
-        None => Err("no such shape".into()),
-    }
+fn shape_of(rt: &impl Abort, shapes: &Shapes, name: &str) -> ShapeId {
+    shapes.find(name).expect(rt, "a shape")
+}
+
+/// Writes a value into the recorder, and notes how that ended.
+fn write_made(
+    alloc: Global,
+    shapes: &Shapes,
+    shape: ShapeId,
+    made: Made,
+    recorder: &mut Recorder,
+) -> Result<(), OutOfMemory> {
+    let value = value(alloc, made)?;
+    let end = write(alloc, shapes, shape, &value, recorder);
+    drop(value);
+    note(&mut recorder.calls, end, "")
+}
+
+/// The recorder has these calls.
+fn assert_calls(rt: &impl Abort, recorder: &Recorder, calls: &str) {
+    assert_eq!(rt; recorder.calls.as_str(), calls);
 }
 
 /// The calls of a row are made.
-fn makes(rt: &impl Abort, alloc: Global, shapes: &Shapes, row: &Row) -> Result<(), Fail> {
-    let (name, made, calls) = row;
-    let shape = shape_of(shapes, name)?;
+fn makes(rt: &impl Abort, alloc: Global, shapes: &Shapes, row: &Row) -> Result<(), OutOfMemory> {
+    let (name, made, calls) = *row;
+    let shape = shape_of(rt, shapes, name);
     let mut recorder = Recorder::new(alloc, 100);
-    let value = value(alloc, *made)?;
-    let end = write(alloc, shapes, shape, &value, &mut recorder);
-    drop(value);
-    note(&mut recorder.calls, end, "")?;
-    assert_eq!(rt; recorder.calls.as_str(), *calls);
+    let written = write_made(alloc, shapes, shape, made, &mut recorder);
+    assert_calls(rt, &recorder, calls);
+    drop(recorder);
+    written
+}
+
+fn make_all(rt: &impl Abort, alloc: Global, shapes: &Shapes) -> Result<(), OutOfMemory> {
+    'rows: for row in STOPPED.iter() {
+        makes(rt, alloc, shapes, row)?;
+    }
     Ok(())
 }
 
 #[test]
-fn a_part_without_a_form_ends_the_writing(rt: HostRuntime) -> Result<(), Fail> {
+fn a_part_without_a_form_ends_the_writing(rt: HostRuntime) -> Result<(), OutOfMemory> {
     let shapes = shapes(rt.alloc())?;
-    'rows: for row in &STOPPED {
-        makes(&rt, rt.alloc(), &shapes, row)?;
-    }
-    Ok(())
+    let made = make_all(&rt, rt.alloc(), &shapes);
+    drop(shapes);
+    made
 }
 
+const POINT: Made = Made::Struct(&[Leaf::Unsigned(1), Leaf::None]);
+
 /// Writes a point of six calls, of which so many aren't refused.
-fn written_within(alloc: Global, shapes: &Shapes, left: usize) -> Result<&'static str, Fail> {
-    let point = shape_of(shapes, "Point")?;
+fn written_within(
+    alloc: Global,
+    shapes: &Shapes,
+    point: ShapeId,
+    left: usize,
+) -> Result<&'static str, OutOfMemory> {
+    let value = value(alloc, POINT)?;
     let mut recorder = Recorder::new(alloc, left);
-    let value = value(alloc, Made::Struct(&[Leaf::Unsigned(1), Leaf::None]))?;
     let end = write(alloc, shapes, point, &value, &mut recorder);
+    drop(recorder);
     drop(value);
     Ok(end)
 }
 
-#[test]
-fn a_refused_call_ends_the_writing(rt: HostRuntime) -> Result<(), Fail> {
-    let shapes = shapes(rt.alloc())?;
-    'calls: for left in 0..=6 {
-        let end = written_within(rt.alloc(), &shapes, left)?;
-        assert_eq!(rt; end, if left < 6 { "broken" } else { "." });
+/// How the writing ends where so many calls aren't refused.
+static ENDS: [&str; 7] = [
+    "broken", "broken", "broken", "broken", "broken", "broken", ".",
+];
+
+fn refuse_each(rt: &impl Abort, alloc: Global, shapes: &Shapes) -> Result<(), OutOfMemory> {
+    let point = shape_of(rt, shapes, "Point");
+    'calls: for (left, want) in ENDS.iter().enumerate() {
+        let end = written_within(alloc, shapes, point, left)?;
+        assert_eq!(rt; end, *want, "row {left}");
     }
     Ok(())
+}
+
+#[test]
+fn a_refused_call_ends_the_writing(rt: HostRuntime) -> Result<(), OutOfMemory> {
+    let shapes = shapes(rt.alloc())?;
+    let refused = refuse_each(&rt, rt.alloc(), &shapes);
+    drop(shapes);
+    refused
 }
 
 /// Writes one value by a context of its own.
@@ -152,15 +190,25 @@ fn write_one(
     end
 }
 
-#[test]
-fn contexts_write_one_value_behind_another(rt: HostRuntime) -> Result<(), Fail> {
-    let shapes = shapes(rt.alloc())?;
-    let number = shape_of(&shapes, "u64")?;
-    let mut recorder = Recorder::new(rt.alloc(), 100);
+fn write_two(rt: &impl Abort, alloc: Global, shapes: &Shapes, recorder: &mut Recorder) {
+    let number = shape_of(rt, shapes, "u64");
     'values: for _ in 0..2 {
-        let end = write_one(rt.alloc(), &shapes, number, &mut recorder);
+        let end = write_one(alloc, shapes, number, recorder);
         assert_eq!(rt; end, ".");
     }
-    assert_eq!(rt; recorder.calls.as_str(), "U64(1) U64(1)");
+}
+
+fn record_two(rt: &impl Abort, alloc: Global, shapes: &Shapes) {
+    let mut recorder = Recorder::new(alloc, 100);
+    write_two(rt, alloc, shapes, &mut recorder);
+    assert_calls(rt, &recorder, "U64(1) U64(1)");
+    drop(recorder);
+}
+
+#[test]
+fn contexts_write_one_value_behind_another(rt: HostRuntime) -> Result<(), OutOfMemory> {
+    let shapes = shapes(rt.alloc())?;
+    record_two(&rt, rt.alloc(), &shapes);
+    drop(shapes);
     Ok(())
 }

@@ -1,8 +1,7 @@
 //! Shapes, and values that are told in a short form.
 use shape_core::{Items, OutOfMemory, Shapes, Value};
-use shape_text::{ReadShapesError, read_shapes};
+use shape_text::read_shapes;
 use std::alloc::Global;
-use std::test::Fail;
 
 const SHAPES: &[u8] = b"shape Option option u64
 shape List list u64
@@ -16,10 +15,10 @@ field y Option
 ";
 
 /// The shapes of the text.
-pub(super) fn shapes<'v>(alloc: Global) -> Result<Shapes<'v>, Fail> {
+pub(super) fn shapes<'v>(alloc: Global) -> Result<Shapes<'v>, OutOfMemory> {
     match read_shapes(alloc, SHAPES) {
         Ok(shapes) => Ok(shapes),
-        Err(_) => Err("no shapes".into()),
+        Err(_) => Err(OutOfMemory),
     }
 }
 
@@ -61,8 +60,13 @@ fn push_all(values: &mut Items<Value<'static>>, leaves: &[Leaf]) -> Result<(), O
 
 fn items(alloc: Global, leaves: &[Leaf]) -> Result<Items<Value<'static>>, OutOfMemory> {
     let mut values = Items::new(alloc);
-    push_all(&mut values, leaves)?;
-    Ok(values)
+    match push_all(&mut values, leaves) {
+        Ok(()) => Ok(values),
+        Err(refused) => {
+            drop(values);
+            Err(refused)
+        }
+    }
 }
 
 pub(super) fn value(alloc: Global, made: Made) -> Result<Value<'static>, OutOfMemory> {
