@@ -1,14 +1,13 @@
 //! The calls of a parser.
-use super::shown::gives;
+use super::shown::gives_all;
 use event_core::{ParseError, ParseEvent};
 use format_traits::FormatParser;
-use std::alloc::Global;
+use std::alloc::{AllocError, Global};
 use std::collections::VecDeque;
 use std::process::Abort;
-use std::test::*;
 use tape_text::TapeParser;
 
-const POINT: [&str; 8] = [
+static POINT: [&str; 8] = [
     "StructStart(Object)@[0..1)",
     "FieldKey(Name(Borrowed(\"x\")))@[2..7)",
     "Scalar(U64(1))@[8..11)",
@@ -19,17 +18,19 @@ const POINT: [&str; 8] = [
     "end",
 ];
 
+fn is_bare(parser: &TapeParser<'_>) -> bool {
+    parser.is_self_describing() && parser.current_span().is_none()
+}
+
 #[test]
-fn reads_point(rt: HostRuntime) -> Result<(), Fail> {
-    let alloc = rt.alloc();
+fn reads_point(rt: HostRuntime) -> Result<(), AllocError> {
     let input = b"{\nk \"x\"\nu 1\nk \"y\"\nu 18446744073709551615\n}\n";
-    let mut parser = TapeParser::new(alloc, input);
-    'events: for want in &POINT {
-        gives(&rt, alloc, &mut parser, want)?;
-    }
-    assert!(rt; parser.is_self_describing());
-    assert!(rt; parser.current_span().is_none());
-    Ok(())
+    let mut parser = TapeParser::new(rt.alloc(), input);
+    let given = gives_all(&rt, rt.alloc(), &mut parser, &POINT);
+    let is_bare = is_bare(&parser);
+    drop(parser);
+    assert!(rt; is_bare);
+    given
 }
 
 /// How many events came, none where a fault did.
@@ -59,10 +60,11 @@ fn fills<'de>(
 fn fill(rt: &impl Abort, alloc: Global, input: &[u8], rows: &[(usize, Option<usize>, usize)]) {
     let mut parser = TapeParser::new(alloc, input);
     let mut buf = VecDeque::new(alloc);
-    'rows: for row in rows {
+    'rows: for row in rows.iter() {
         fills(rt, &mut parser, &mut buf, row);
     }
     drop(buf);
+    drop(parser);
 }
 
 #[test]

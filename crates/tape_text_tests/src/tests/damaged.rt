@@ -1,10 +1,9 @@
 //! Lines that no event has, and their faults, which come again.
-use super::shown::gives;
-use std::test::*;
-use tape_text::TapeParser;
+use super::shown::reads;
+use std::alloc::AllocError;
 
 /// Each behind a line that is good.
-const DAMAGED: [(&[u8], &str); 6] = [
+static DAMAGED: [(&[u8], &str); 6] = [
     (
         b"o\nu 3",
         "unexpected end of input, expected line end at [2..5)",
@@ -29,13 +28,9 @@ const DAMAGED: [(&[u8], &str); 6] = [
 ];
 
 #[test]
-fn a_fault_comes_again(rt: HostRuntime) -> Result<(), Fail> {
-    let alloc = rt.alloc();
-    'lines: for (input, want) in &DAMAGED {
-        let mut parser = TapeParser::new(alloc, input);
-        gives(&rt, alloc, &mut parser, "OrderedField@[0..1)")?;
-        gives(&rt, alloc, &mut parser, want)?;
-        gives(&rt, alloc, &mut parser, want)?;
+fn a_fault_comes_again(rt: HostRuntime) -> Result<(), AllocError> {
+    'lines: for (input, want) in DAMAGED.iter() {
+        reads(&rt, rt.alloc(), input, &["OrderedField@[0..1)", want, want])?;
     }
     Ok(())
 }

@@ -1,10 +1,10 @@
 //! One line each, with its event.
-use super::shown::{gives, taken};
-use std::test::*;
+use super::shown::{reads, taken};
+use std::alloc::{AllocError, Global};
 use tape_text::TapeParser;
 
 /// Lines that no value is made of, or of which a value doesn't tell all.
-const LINES: [(&[u8], &str); 27] = [
+static LINES: [(&[u8], &str); 27] = [
     (b"{\n", "StructStart(Object)@[0..1)"),
     (b"[\n", "SequenceStart(Array)@[0..1)"),
     (b"o\n", "OrderedField@[0..1)"),
@@ -68,31 +68,50 @@ const LINES: [(&[u8], &str); 27] = [
 ];
 
 #[test]
-fn each_line_has_its_event(rt: HostRuntime) -> Result<(), Fail> {
-    let alloc = rt.alloc();
-    'lines: for (input, want) in &LINES {
-        let mut parser = TapeParser::new(alloc, input);
-        gives(&rt, alloc, &mut parser, want)?;
-        gives(&rt, alloc, &mut parser, "end")?;
+fn each_line_has_its_event(rt: HostRuntime) -> Result<(), AllocError> {
+    'lines: for (input, want) in LINES.iter() {
+        reads(&rt, rt.alloc(), input, &[want, "end"])?;
     }
     Ok(())
 }
 
-#[test]
-fn a_long_line_is_read(rt: HostRuntime) -> Result<(), Fail> {
-    let mut line = String::new(rt.alloc());
+fn push_long(line: &mut String) -> Result<(), AllocError> {
     line.push_str("s \"")?;
     'parts: for _ in 0..2000 {
         line.push_str("0123456789abcdef")?;
     }
-    line.push_str("\\n\"\n")?;
-    let mut parser = TapeParser::new(rt.alloc(), line.as_bytes());
-    let mut out = String::new(rt.alloc());
-    taken(&mut parser, &mut out)?;
-    assert!(rt;
-        out.as_str()
-            .starts_with("Scalar(Str(Owned(Name { text: \"0123456789abcdef0123")
-    );
-    assert!(rt; out.as_str().ends_with("cdef\\n\" })))@[0..32006)"));
+    line.push_str("\\n\"\n")
+}
+
+fn is_long(told: &str) -> bool {
+    told.starts_with("Scalar(Str(Owned(Name { text: \"0123456789abcdef0123")
+        && told.ends_with("cdef\\n\" })))@[0..32006)")
+}
+
+/// The line has the event of the long text.
+fn tells_long(alloc: Global, line: &str) -> Result<bool, AllocError> {
+    let mut parser = TapeParser::new(alloc, line.as_bytes());
+    let mut out = String::new(alloc);
+    let told = taken(&mut parser, &mut out);
+    let is_long = is_long(out.as_str());
+    drop(out);
+    drop(parser);
+    told?;
+    Ok(is_long)
+}
+
+/// A long line is made, and has its event.
+fn reads_long(alloc: Global, line: &mut String) -> Result<bool, AllocError> {
+    push_long(line)?;
+    tells_long(alloc, line.as_str())
+}
+
+#[test]
+fn a_long_line_is_read(rt: HostRuntime) -> Result<(), AllocError> {
+    let mut line = String::new(rt.alloc());
+    let is_long = reads_long(rt.alloc(), &mut line);
+    drop(line);
+    let is_long = is_long?;
+    assert!(rt; is_long);
     Ok(())
 }

@@ -3,7 +3,6 @@ use event_core::{FieldKey, FullFieldKey, ParseError, ParseEvent, ParseEventKind,
 use format_traits::FormatParser;
 use std::alloc::{AllocError, Global};
 use std::process::Abort;
-use std::test::Fail;
 use tape_text::TapeParser;
 
 /// What is told beside an event or a key.
@@ -68,18 +67,61 @@ pub fn seen(parser: &mut TapeParser<'_>, out: &mut String) -> Result<(), AllocEr
     told
 }
 
+/// What a parser told is this.
+fn assert_told(rt: &impl Abort, out: &str, want: &str) {
+    assert_eq!(rt; out, want);
+}
+
+/// The next event is looked at, and then taken.
+fn tells(
+    rt: &impl Abort,
+    parser: &mut TapeParser<'_>,
+    out: &mut String,
+    want: &str,
+) -> Result<(), AllocError> {
+    seen(parser, out)?;
+    assert_told(rt, out.as_str(), want);
+    out.clear();
+    taken(parser, out)?;
+    assert_told(rt, out.as_str(), want);
+    Ok(())
+}
+
 /// The next event is looked at, and then taken.
 pub fn gives(
     rt: &impl Abort,
     alloc: Global,
     parser: &mut TapeParser<'_>,
     want: &str,
-) -> Result<(), Fail> {
+) -> Result<(), AllocError> {
     let mut out = String::new(alloc);
-    seen(parser, &mut out)?;
-    assert_eq!(rt; out.as_str(), want);
-    out.clear();
-    taken(parser, &mut out)?;
-    assert_eq!(rt; out.as_str(), want);
+    let told = tells(rt, parser, &mut out, want);
+    drop(out);
+    told
+}
+
+/// These events come next.
+pub fn gives_all(
+    rt: &impl Abort,
+    alloc: Global,
+    parser: &mut TapeParser<'_>,
+    wants: &[&str],
+) -> Result<(), AllocError> {
+    'events: for want in wants.iter() {
+        gives(rt, alloc, parser, want)?;
+    }
     Ok(())
+}
+
+/// These are the events of an input.
+pub fn reads(
+    rt: &impl Abort,
+    alloc: Global,
+    input: &[u8],
+    wants: &[&str],
+) -> Result<(), AllocError> {
+    let mut parser = TapeParser::new(alloc, input);
+    let given = gives_all(rt, alloc, &mut parser, wants);
+    drop(parser);
+    given
 }

@@ -1,10 +1,11 @@
 //! A tape that was written, and what is read of it.
-use super::shown::gives;
+use super::shown::reads;
 use event_core::ScalarValue;
 use format_traits::{FormatSerializer, WriteStop};
 use shape_types::{Bytes, Text};
-use std::test::*;
-use tape_text::{NoFault, TapeBytes, TapeParser, TapeWriter};
+use std::alloc::{AllocError, Global};
+use std::process::Abort;
+use tape_text::{NoFault, TapeBytes, TapeWriter};
 
 /// A scalar of each kind.
 fn scalar(at: usize) -> ScalarValue<'static> {
@@ -56,7 +57,7 @@ b
 }
 ";
 
-const EVENTS: [&str; 19] = [
+static EVENTS: [&str; 19] = [
     "StructStart(Object)@[0..1)",
     "FieldKey(Name(Borrowed(\"x\")))@[2..7)",
     "FieldKey(Name(Owned(Name { text: \"\\\"\\\\\\n\" })))@[8..18)",
@@ -78,16 +79,19 @@ const EVENTS: [&str; 19] = [
     "end",
 ];
 
+/// What was written is these lines, which are read as these events.
+fn is_read(rt: &impl Abort, alloc: Global, bytes: &[u8]) -> Result<(), AllocError> {
+    assert_eq!(rt; bytes, LINES);
+    reads(rt, alloc, bytes, &EVENTS)
+}
+
 #[test]
-fn what_was_written_is_read(rt: HostRuntime) -> Result<(), Fail> {
-    let alloc = rt.alloc();
-    let mut tape = TapeWriter::new(alloc);
-    assert!(rt; write_lines(&mut tape).is_ok());
+fn what_was_written_is_read(rt: HostRuntime) -> Result<(), AllocError> {
+    let mut tape = TapeWriter::new(rt.alloc());
+    let is_written = write_lines(&mut tape).is_ok();
     let bytes = tape.into_bytes();
-    assert_eq!(rt; bytes.as_slice(), LINES);
-    let mut parser = TapeParser::new(alloc, bytes.as_slice());
-    'events: for want in &EVENTS {
-        gives(&rt, alloc, &mut parser, want)?;
-    }
-    Ok(())
+    let read = is_read(&rt, rt.alloc(), bytes.as_slice());
+    drop(bytes);
+    assert!(rt; is_written);
+    read
 }
