@@ -1,17 +1,7 @@
 //! A case of a file.
 
+use case_answers::Outcome;
 use shape_types::Items;
-
-/// What a run answers.
-#[derive(Drop)]
-pub struct Outcome {
-    /// The status.
-    pub status: u8,
-    /// The bytes that are said on the notes.
-    pub notes: Items<u8>,
-    /// The bytes that are written to the sink.
-    pub output: Items<u8>,
-}
 
 /// What a run is given beside its words.
 #[derive(Drop)]

@@ -5,7 +5,6 @@
 
 mod block;
 mod case;
-mod difference;
 mod escape;
 mod fault;
 mod head;
@@ -15,8 +14,7 @@ mod reading;
 mod reporting;
 mod section;
 
-pub use case::{Case, Given, Outcome, Title};
-pub use difference::{Difference, Tally, compare};
+pub use case::{Case, Given, Title};
 pub use fault::{CaseFault, CaseFaultKind, ReadCasesError};
 pub use reading::read_cases;
 pub use reporting::report;

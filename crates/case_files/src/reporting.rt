@@ -1,7 +1,7 @@
 //! What is said of a case that differs.
 
-use crate::case::{Outcome, Title};
-use crate::difference::Difference;
+use crate::case::Title;
+use case_answers::{Difference, Outcome};
 use shape_types::OutOfMemory;
 use std::alloc::Global;
 use std::str;

@@ -1,10 +1,11 @@
 //! The parts of one case.
 
 use crate::block::{add_block, add_line};
-use crate::case::{Case, Given, Outcome, Title};
+use crate::case::{Case, Given, Title};
 use crate::fault::{CaseFaultKind, ReadCasesError, fault};
 use crate::head::Head;
 use crate::part::{Part, behind};
+use case_answers::Outcome;
 use shape_types::{Items, OutOfMemory};
 use std::alloc::Global;
 

@@ -7,7 +7,8 @@
 
 mod running;
 
-use case_files::{Case, CaseFault, ReadCasesError, Tally, read_cases};
+use case_answers::Tally;
+use case_files::{Case, CaseFault, ReadCasesError, read_cases};
 use recode_top::{ReadStop, StreamSource, read_all};
 use running::checked;
 use shape_core::Items;

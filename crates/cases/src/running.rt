@@ -1,6 +1,7 @@
 //! Runs one case in memory.
 
-use case_files::{Case, Difference, Given, Outcome, compare, report};
+use case_answers::{Difference, Outcome, compare};
+use case_files::{Case, Given, report};
 use recode_top::{MemorySink, MemorySource, Words, run};
 use shape_core::{Items, OutOfMemory};
 use std::alloc::Global;
