@@ -22,6 +22,8 @@ pub enum Form<'a> {
     Flattened,
     /// A struct that refuses unknown keys.
     Denying,
+    /// A tuple struct whose one item has a rename.
+    RenamedItem,
     Option(u32),
     Result(u32, u32),
     List(u32),
@@ -99,6 +101,15 @@ fn flattened(alloc: Global) -> Result<Items<Field<'static>>, OutOfMemory> {
     Ok(fields)
 }
 
+fn renamed(alloc: Global) -> Result<Items<Field<'static>>, OutOfMemory> {
+    let rename = Name::copy(alloc, "a")?;
+    let mut item = field(Name::copy(alloc, "0")?, 6, false);
+    item.rename = Some(rename);
+    let mut fields = Items::new(alloc);
+    fields.push(item)?;
+    Ok(fields)
+}
+
 fn structure(kind: StructKind, fields: Items<Field<'static>>, deny: bool) -> Def<'static> {
     Def::Struct(StructDef {
         kind,
@@ -112,7 +123,7 @@ fn structure(kind: StructKind, fields: Items<Field<'static>>, deny: bool) -> Def
 /// A shape that needs no memory, where the form is of one.
 fn plain(alloc: Global, form: Form<'_>) -> Option<Def<'static>> {
     match form {
-        Form::Missing | Form::Fields(_, _) | Form::Flattened => None,
+        Form::Missing | Form::Fields(_, _) | Form::Flattened | Form::RenamedItem => None,
         Form::Denying => Some(structure(StructKind::Struct, Items::new(alloc), true)),
         Form::Option(inner) => Some(Def::Option(ShapeId(inner))),
         Form::Result(ok, err) => Some(Def::Result {
@@ -146,6 +157,7 @@ fn definition(alloc: Global, form: Form<'_>) -> Result<Option<Def<'static>>, Out
     match form {
         Form::Fields(kind, rows) => Ok(some_struct(kind, fields(alloc, rows)?)),
         Form::Flattened => Ok(some_struct(StructKind::Struct, flattened(alloc)?)),
+        Form::RenamedItem => Ok(some_struct(StructKind::TupleStruct, renamed(alloc)?)),
         _ => Ok(plain(alloc, form)),
     }
 }

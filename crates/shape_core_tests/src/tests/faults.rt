@@ -10,7 +10,7 @@ const X: Form<'static> = Form::Fields(StructKind::Struct, &[("x", 6)]);
 const TWICE: Form<'static> = Form::Fields(StructKind::Struct, &[("x", 6), ("y", 6), ("x", 6)]);
 
 /// Registries that keep every rule.
-static GOOD: [Rows<'static>; 3] = [
+static GOOD: [Rows<'static>; 4] = [
     FORMS,
     // Fields of every kind of shape, among them one that leads back, and a bare tuple.
     &[
@@ -28,6 +28,8 @@ static GOOD: [Rows<'static>; 3] = [
             Form::Fields(StructKind::Tuple, &[("0", 17), ("1", 18)]),
         ),
     ],
+    // A struct that refuses unknown keys.
+    &[("A", Form::Denying)],
     // A list leads back to itself by no step.
     &[("A", Form::Option(18)), ("B", Form::List(17))],
 ];
@@ -131,6 +133,12 @@ static FAULTY: [(Rows<'static>, u32, ShapeFaultKind); 23] = [
         18,
         ShapeFaultKind::RepeatedShapeName,
     ),
+    // An item of a tuple has no attribute.
+    (
+        &[("A", X), ("B", Form::RenamedItem)],
+        18,
+        ShapeFaultKind::BadFlatten,
+    ),
     // Forms that aren't built, which comes before every other fault of the shape.
     (
         &[("A", X), ("A", Form::Set(6))],
@@ -145,11 +153,6 @@ static FAULTY: [(Rows<'static>, u32, ShapeFaultKind); 23] = [
     (&[("A", X), ("B", Form::Enum)], 18, ShapeFaultKind::NotBuilt),
     (
         &[("A", X), ("B", Form::Flattened)],
-        18,
-        ShapeFaultKind::NotBuilt,
-    ),
-    (
-        &[("A", X), ("B", Form::Denying)],
         18,
         ShapeFaultKind::NotBuilt,
     ),
