@@ -134,7 +134,7 @@ order_leads g c l n allowed = by_order (list_any (λ f. f.flattened) l.fields) r
         let (f, at, plain) = plain_field l.fields n none few in (
           one_shape f.shape,
           ap (λ o. leaf_found (leaf_flat g l.whole (length g)) g l.whole (below n c) o []) at
-          ∙ ap (λ b. cond (b && not (l.whole && true)) (leaf_flat g l.whole (length g) (definition_at g f.shape) (below n c) []) (Some (one_shape f.shape))) plain,
+              ∙ ap (λ b. cond (b && not (l.whole && true)) (leaf_flat g l.whole (length g) (definition_at g f.shape) (below n c) []) (Some (one_shape f.shape))) plain,
         )
 
 -- a key that is allowed leads to a part
