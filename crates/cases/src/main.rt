@@ -7,11 +7,10 @@
 
 mod running;
 
-use case_answers::Tally;
+use case_answers::{Difference, Tally};
 use case_files::{Case, CaseFault, ReadCasesError, read_cases};
 use recode_top::{ReadStop, StreamSource, read_all};
 use running::checked;
-use shape_core::Items;
 use std::io;
 use std::process::ExitCode;
 
@@ -19,37 +18,59 @@ use std::process::ExitCode;
 const LIMIT: usize = 67_108_864;
 
 fn main(rt: HostRuntime) -> io::Result<ExitCode> {
-    let mut source = StreamSource::new(rt.stdin());
-    let status = match read_all(rt.alloc(), &mut source, LIMIT) {
-        Ok(file) => run_file(&rt, file.as_slice())?,
-        Err(ReadStop::Fault) => stopped(&rt, "the file can't be read", 4)?,
-        Err(ReadStop::TooLong) => stopped(&rt, "the file is longer than 67,108,864 bytes", 2)?,
-        Err(ReadStop::Memory) => stopped(&rt, "out of memory", 6)?,
-    };
+    let status = run_input(&rt)?;
     Ok(ExitCode::from(status))
+}
+
+/// Runs the cases of standard input, and answers the status.
+fn run_input(rt: &HostRuntime) -> io::Result<u8> {
+    let mut source = StreamSource::new(rt.stdin());
+    match read_all(rt.alloc(), &mut source, LIMIT) {
+        Ok(file) => run_file(rt, file.as_slice()),
+        Err(stop) => unread(rt, stop),
+    }
+}
+
+/// Says why the file isn't read to its end.
+fn unread(rt: &HostRuntime, stop: ReadStop) -> io::Result<u8> {
+    match stop {
+        ReadStop::Fault => stopped(rt, "the file can't be read", 4),
+        ReadStop::TooLong => stopped(rt, "the file is longer than 67,108,864 bytes", 2),
+        ReadStop::Memory => stopped(rt, "out of memory", 6),
+    }
 }
 
 /// Runs the cases of a file, or says why it is refused.
 fn run_file(rt: &HostRuntime, file: &[u8]) -> io::Result<u8> {
     match read_cases(rt.alloc(), file) {
-        Ok(cases) => run_cases(rt, cases),
+        Ok(cases) => run_cases(rt, cases.as_slice()),
         Err(ReadCasesError::Fault(fault)) => refused(rt, fault),
         Err(ReadCasesError::Alloc) => stopped(rt, "out of memory", 6),
     }
 }
 
 /// Runs cases, prints those that differ, and then how many do.
-fn run_cases(rt: &HostRuntime, cases: Items<Case<'_>>) -> io::Result<u8> {
+fn run_cases(rt: &HostRuntime, cases: &[Case<'_>]) -> io::Result<u8> {
     let mut tally = Tally::new();
-    for case in cases.into_vec() {
-        let Ok((difference, report)) = checked(rt.alloc(), case) else {
+    for case in cases {
+        let Some(difference) = run_case(rt, case)? else {
             return stopped(rt, "out of memory", 6);
         };
-        print!(rt; "{report}")?;
         tally.add(difference);
     }
     println!(rt; "{tally}")?;
     Ok(tally.status())
+}
+
+/// Runs a case, and prints it if it differs. None where memory ran out.
+fn run_case(rt: &HostRuntime, case: &Case<'_>) -> io::Result<Option<Difference>> {
+    match checked(rt.alloc(), case) {
+        Ok((difference, report)) => {
+            print!(rt; "{report}")?;
+            Ok(Some(difference))
+        }
+        Err(_) => Ok(None),
+    }
 }
 
 /// Says what is wrong with the file.
