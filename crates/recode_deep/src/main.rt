@@ -22,25 +22,18 @@ shape Rest option Chain
 shape Outcome result Outcome u8
 ";
 
-/// Lines that stand so often before the innermost value, and as often behind it.
+/// A value that is nested: lines that stand so often before the innermost value, and as often behind it.
 #[derive(Clone, Copy)]
-struct Nest<'a> {
+struct Nest {
+    levels: usize,
+    root: &'static str,
     count: usize,
-    open: &'a str,
-    inner: &'a str,
-    close: &'a str,
+    open: &'static str,
+    inner: &'static str,
+    close: &'static str,
 }
 
-impl<'a> Nest<'a> {
-    fn new(count: usize, open: &'a str, inner: &'a str, close: &'a str) -> Nest<'a> {
-        Nest {
-            count,
-            open,
-            inner,
-            close,
-        }
-    }
-
+impl Nest {
     /// The tape of the nested value.
     fn tape(self, alloc: Global) -> Result<String, OutOfMemory> {
         let mut tape = String::new(alloc);
@@ -55,24 +48,33 @@ impl<'a> Nest<'a> {
     }
 }
 
-/// How a tape is recoded that is its own canonical form.
-fn outcome(alloc: Global, shapes: &Shapes, root: &str, nest: Nest<'_>) -> &'static str {
-    let Some(root) = shapes.find(root) else {
-        return "no root";
-    };
+/// How a nested value is recoded, whose tape is its own canonical form.
+fn outcome(alloc: Global, shapes: &Shapes, nest: Nest) -> &'static str {
     let Ok(tape) = nest.tape(alloc) else {
         return "out of memory";
     };
-    match recode(alloc, shapes, root, 512, DEPTH, tape.as_bytes()) {
-        Ok(out) => {
-            if out.as_slice() == tape.as_bytes() {
-                "recoded"
-            } else {
-                "changed"
-            }
-        }
-        Err(error) => refusal(&error),
-    }
+    let outcome = recoded(alloc, shapes, nest.root, tape.as_bytes());
+    drop(tape);
+    outcome
+}
+
+/// How a tape is recoded at this root.
+fn recoded(alloc: Global, shapes: &Shapes, root: &str, tape: &[u8]) -> &'static str {
+    let Some(root) = shapes.find(root) else {
+        return "no root";
+    };
+    let answer = recode(alloc, shapes, root, 512, DEPTH, tape);
+    let told = match &answer {
+        Ok(out) => compared(out.as_slice(), tape),
+        Err(error) => refusal(error),
+    };
+    drop(answer);
+    told
+}
+
+/// Whether a tape came back as it was.
+fn compared(out: &[u8], tape: &[u8]) -> &'static str {
+    if out == tape { "recoded" } else { "changed" }
 }
 
 /// Why a tape is refused, in a word or two.
@@ -87,37 +89,86 @@ fn refusal(error: &RecodeError<'_>) -> &'static str {
     }
 }
 
+/// The values, each at the greatest depth or a level deeper.
+static NESTS: [Nest; 8] = [
+    Nest {
+        levels: 4_096,
+        root: "Tree",
+        count: 2_048,
+        open: "{\nk \"kids\"\n[\n",
+        inner: "",
+        close: "]\n}\n",
+    },
+    Nest {
+        levels: 4_097,
+        root: "Kids",
+        count: 2_048,
+        open: "[\n{\nk \"kids\"\n",
+        inner: "[\n]\n",
+        close: "}\n]\n",
+    },
+    Nest {
+        levels: 4_096,
+        root: "Maybe",
+        count: 2_048,
+        open: "[\n",
+        inner: "",
+        close: "]\n",
+    },
+    Nest {
+        levels: 4_097,
+        root: "Rows",
+        count: 2_049,
+        open: "[\n",
+        inner: "",
+        close: "]\n",
+    },
+    Nest {
+        levels: 4_096,
+        root: "Chain",
+        count: 2_048,
+        open: "[\n",
+        inner: "null\n",
+        close: "]\n",
+    },
+    Nest {
+        levels: 4_097,
+        root: "Rest",
+        count: 2_048,
+        open: "[\n",
+        inner: "null\n",
+        close: "]\n",
+    },
+    Nest {
+        levels: 4_096,
+        root: "Outcome",
+        count: 4_094,
+        open: "{\nk \"Ok\"\n",
+        inner: "{\nk \"Err\"\nu 0\n}\n",
+        close: "}\n",
+    },
+    Nest {
+        levels: 4_097,
+        root: "Outcome",
+        count: 4_095,
+        open: "{\nk \"Ok\"\n",
+        inner: "{\nk \"Err\"\nu 0\n}\n",
+        close: "}\n",
+    },
+];
+
 fn main(rt: HostRuntime) -> io::Result<()> {
     let Ok(shapes) = read_shapes(rt.alloc(), SHAPES.as_bytes()) else {
         return println!(rt; "no shapes");
     };
-    for (levels, root, nest) in [
-        (
-            4_096,
-            "Tree",
-            Nest::new(2_048, "{\nk \"kids\"\n[\n", "", "]\n}\n"),
-        ),
-        (
-            4_097,
-            "Kids",
-            Nest::new(2_048, "[\n{\nk \"kids\"\n", "[\n]\n", "}\n]\n"),
-        ),
-        (4_096, "Maybe", Nest::new(2_048, "[\n", "", "]\n")),
-        (4_097, "Rows", Nest::new(2_049, "[\n", "", "]\n")),
-        (4_096, "Chain", Nest::new(2_048, "[\n", "null\n", "]\n")),
-        (4_097, "Rest", Nest::new(2_048, "[\n", "null\n", "]\n")),
-        (
-            4_096,
-            "Outcome",
-            Nest::new(4_094, "{\nk \"Ok\"\n", "{\nk \"Err\"\nu 0\n}\n", "}\n"),
-        ),
-        (
-            4_097,
-            "Outcome",
-            Nest::new(4_095, "{\nk \"Ok\"\n", "{\nk \"Err\"\nu 0\n}\n", "}\n"),
-        ),
-    ] {
-        let outcome = outcome(rt.alloc(), &shapes, root, nest);
+    show(&rt, &shapes)
+}
+
+/// Prints how each value is recoded.
+fn show(rt: &HostRuntime, shapes: &Shapes) -> io::Result<()> {
+    for nest in &NESTS {
+        let Nest { levels, root, .. } = *nest;
+        let outcome = outcome(rt.alloc(), shapes, *nest);
         println!(rt; "{levels} levels of {root}: {outcome}")?;
     }
     Ok(())
