@@ -3,7 +3,7 @@
 
 use recode_top::{StreamSink, StreamSource, Words, out_of_memory, run};
 use shape_core::OutOfMemory;
-use std::env;
+use std::env::{self, Args};
 use std::io::ErrorKind;
 use std::process::ExitCode;
 
@@ -21,14 +21,23 @@ fn main(rt: HostRuntime) -> ExitCode {
 /// The words behind the program's name. Where one of them isn't text there are none, which no command is made of.
 fn words(rt: &HostRuntime) -> Result<Words, OutOfMemory> {
     let mut words = Words::new(rt.alloc());
-    match env::args(rt) {
-        Ok(args) => {
-            for word in args.skip(1) {
-                words.push(word.as_str())?;
-            }
-        }
-        Err(error) if error.kind() == ErrorKind::OutOfMemory => return Err(OutOfMemory),
-        Err(_) => {}
-    }
+    add_words(rt, &mut words)?;
     Ok(words)
+}
+
+/// Adds the words behind the program's name, where all are text.
+fn add_words(rt: &HostRuntime, words: &mut Words) -> Result<(), OutOfMemory> {
+    match env::args(rt) {
+        Ok(args) => add_args(args, words),
+        Err(error) if error.kind() == ErrorKind::OutOfMemory => Err(OutOfMemory),
+        Err(_) => Ok(()),
+    }
+}
+
+/// Adds all arguments but the first.
+fn add_args(args: Args, words: &mut Words) -> Result<(), OutOfMemory> {
+    for word in args.skip(1) {
+        words.push(word.as_str())?;
+    }
+    Ok(())
 }
