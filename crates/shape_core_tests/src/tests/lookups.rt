@@ -158,14 +158,18 @@ fn array_of(def: Option<&Def<'_>>) -> Option<(u32, u32)> {
     }
 }
 
+/// Through a transparent shape stands the array behind it.
+fn has_base(shapes: &Shapes<'_>) -> bool {
+    stands_for(shapes.definition_at(ShapeId(24))) == Some(23)
+        && array_of(shapes.base(ShapeId(24))) == Some((6, 2))
+        && shapes.base(ShapeId(28)).is_none()
+}
+
 fn look_up(rt: &impl Abort, shapes: &Shapes<'_>) {
     for (at, (id, want)) in PARTS.iter().enumerate() {
         assert_row(rt, at, parts_of(shapes, ShapeId(*id)) == *want);
     }
-    let has_base = stands_for(shapes.definition_at(ShapeId(24))) == Some(23)
-        && array_of(shapes.base(ShapeId(24))) == Some((6, 2))
-        && shapes.base(ShapeId(28)).is_none();
-    assert_row(rt, 24, has_base);
+    assert_row(rt, 24, has_base(shapes));
 }
 
 #[test]

@@ -50,13 +50,27 @@ fn items(alloc: Global, values: &[Plain]) -> Result<Items<Value<'static>>, OutOf
     Ok(items)
 }
 
+/// The value that this form makes of what it holds, that of `Some` by default.
+fn held(form: Made, inner: Boxed<Value<'static>>) -> Value<'static> {
+    match form {
+        Made::Ok(_) => Value::Ok(inner),
+        Made::Err(_) => Value::Err(inner),
+        _ => Value::Some(inner),
+    }
+}
+
+fn holder(alloc: Global, form: Made, inner: Plain) -> Result<Value<'static>, OutOfMemory> {
+    match boxed(alloc, inner) {
+        Ok(inner) => Ok(held(form, inner)),
+        Err(refused) => Err(refused),
+    }
+}
+
 /// The value that a row says.
 pub fn value_of(alloc: Global, value: Made) -> Result<Value<'static>, OutOfMemory> {
     match value {
         Made::Plain(value) => Ok(plain_value(value)),
-        Made::Some(inner) => Ok(Value::Some(boxed(alloc, inner)?)),
-        Made::Ok(inner) => Ok(Value::Ok(boxed(alloc, inner)?)),
-        Made::Err(inner) => Ok(Value::Err(boxed(alloc, inner)?)),
+        Made::Some(inner) | Made::Ok(inner) | Made::Err(inner) => holder(alloc, value, inner),
         Made::List(values) => Ok(Value::List(items(alloc, values)?)),
         Made::Struct(values) => Ok(Value::Struct(items(alloc, values)?)),
     }

@@ -50,16 +50,22 @@ fn seven(alloc: Global) -> Result<bool, OutOfMemory> {
     Ok(is_seven && is_copied?)
 }
 
+/// A name, bytes or a text equals its copy, or the text an owned one.
+fn copies(alloc: Global, at: usize) -> Result<bool, OutOfMemory> {
+    match at {
+        0 => key(alloc),
+        1 => seven(alloc),
+        2 => copies_text(alloc, &A),
+        _ => owns_text(alloc, &A),
+    }
+}
+
 #[test]
 fn texts(rt: HostRuntime) -> Result<(), OutOfMemory> {
-    let copied = key(rt.alloc())?;
-    assert_row(&rt, 0, copied);
-    let copied = seven(rt.alloc())?;
-    assert_row(&rt, 1, copied);
-    let copied = copies_text(rt.alloc(), &A)?;
-    assert_row(&rt, 2, copied);
-    let owned = owns_text(rt.alloc(), &A)?;
-    assert_row(&rt, 3, owned);
+    for at in 0..4 {
+        let copied = copies(rt.alloc(), at)?;
+        assert_row(&rt, at, copied);
+    }
     Ok(())
 }
 
