@@ -1,5 +1,5 @@
 //! Readers over some events, and what they answer.
-ghost use Rattle.std.specs.Prelude.{◌≡◌, ◌<◌, length};
+ghost use Rattle.std.specs.Prelude.{◌<◌, length};
 ghost use Rattle.shape_types.specs.Shapes.{registry};
 
 use crate::tests::listed::{Behind, Listed};
@@ -153,10 +153,7 @@ fn answers_of(
             let (first, given) = first_value(reader, root);
             (first, Next::Nothing, given)
         }
-        Calls::Values => {
-            let (first, given) = first_value(reader, root);
-            (first, Next::Value(outcome_of(reader, root)), given)
-        }
+        Calls::Values => two_values(reader, root),
         Calls::ValueAndEvents => {
             let (first, given) = first_value(reader, root);
             (first, next_events(reader), given)
@@ -169,9 +166,17 @@ fn answers_of(
     }
 }
 
+fn two_values(reader: &mut Reader<'_, '_, '_, '_>, root: ShapeId) -> (Outcome, Next, usize)
+    requires { root.0 < length (registry reader.old.plans.now.shapes.now) }
+{
+    let first = outcome_of(reader, root);
+    let given = reader.parser_mut().given();
+    let second = outcome_of(reader, root);
+    (first, Next::Value(second), given)
+}
+
 fn first_value(reader: &mut Reader<'_, '_, '_, '_>, root: ShapeId) -> (Outcome, usize)
     requires { root.0 < length (registry reader.old.plans.now.shapes.now) }
-    ensures same { registry reader.new.plans.now.shapes.now ≡ registry reader.old.plans.now.shapes.now }
 {
     let first = outcome_of(reader, root);
     (first, reader.parser_mut().given())
