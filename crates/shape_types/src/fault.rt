@@ -10,13 +10,14 @@ pub enum ShapeFaultKind {
     Undefined,
     /// An earlier shape has this name.
     RepeatedShapeName,
-    /// Two fields of one struct or variant have one name, or two variants of one enum.
+    /// Two fields of one struct or variant have one name, or two of their keys (effective names and aliases) have one
+    /// text, or two variants of one enum have one name.
     RepeatedName,
     /// A declared default is no value of its shape.
     BadDefault,
     /// A skip rule stands on a field that it can't apply to.
     BadSkip,
-    /// A field is flattened that can't be.
+    /// An item of a tuple isn't named by its place, or has an attribute, or a field is flattened that can't be.
     BadFlatten,
     /// A shape holds itself with nothing in between.
     StepCycle,
