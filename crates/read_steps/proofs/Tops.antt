@@ -2,7 +2,6 @@
 use Rattle.std.proofs.Common.{◌≡◌, ◌∷◌, Option, Some, None, Bool, true, false, refl, ap}
 use Rattle.laws_reading.specs.Values.{Terms}
 use Rattle.laws_machine.specs.Frames.{keyed, object, node, argument, Frames}
-use Rattle.laws_machine.specs.Frames as machine
 use Rattle.event_core.specs.Metadata.{span_view}
 use Rattle.event_core.specs.declared.span.Span.{Span}
 use Rattle.read_steps.specs.declared.key.KeyAt.{KeyAt}
@@ -13,7 +12,6 @@ use Rattle.read_steps.specs.declared.frames.ArgumentKey.TheVariants as argument_
 use Rattle.read_steps.specs.declared.frames.NodePart.{NodePart}
 use Rattle.read_steps.specs.declared.frames.Frame.{Frame}
 use Rattle.read_steps.specs.declared.frames.Frame.TheVariants as frame
-use Rattle.read_steps.specs.declared.kind.FrameKind.{FrameKind}
 use Rattle.read_steps.specs.declared.kind.FrameKind.TheVariants as kind
 use Rattle.read_steps.specs.Kinds.{keyed_kind, object_kind, node_kind, kind_of}
 use Rattle.read_steps.specs.Views.{keyed_frame, object_frame, node_frame, tuple_of, struct_of, node_of, with_frame}

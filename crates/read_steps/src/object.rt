@@ -176,12 +176,7 @@ fn take_key(stack: &mut Stack<'_>, key: KeyAt)
 }
 
 /// No field has this name, and the struct refuses such keys.
-fn unknown<'e>(
-    task: &Task<'_, '_>,
-    stack: &Stack<'_>,
-    name: Text<'e>,
-    span: Span,
-) -> ReadStop<'e>
+fn unknown<'e>(task: &Task<'_, '_>, stack: &Stack<'_>, name: Text<'e>, span: Span) -> ReadStop<'e>
     ensures own { IsOwn (told_stop result) }
     ensures is { IsFault (told_stop result) (fault_in (terms_of task.now) (open_of (terms_of task.now) stack.now) (unknown_field (text_bytes name.entry)) (span_view span)) }
 {
