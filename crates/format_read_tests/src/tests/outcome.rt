@@ -87,8 +87,15 @@ fn part_of(path: Option<&Path<'_>>) -> Part {
 
 fn part_at(steps: &[PathSegment<'_>]) -> Part {
     match steps {
-        [PathSegment::Field(name)] if name.as_str() == "x" => Part::X,
+        [step] if is_field(step, "x") => Part::X,
         _ => Part::Other,
+    }
+}
+
+fn is_field(step: &PathSegment<'_>, wanted: &str) -> bool {
+    match step {
+        PathSegment::Field(name) => name.as_str() == wanted,
+        _ => false,
     }
 }
 
