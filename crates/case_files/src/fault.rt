@@ -1,5 +1,6 @@
 //! Why a file of cases is refused.
 ghost use Rattle.std.specs.Prelude.{◌≡◌};
+ghost use Rattle.case_files.specs.FaultTexts.{kind_text};
 
 use shape_types::OutOfMemory;
 use std::fmt;
@@ -43,7 +44,9 @@ pub enum CaseFaultKind {
 
 impl CaseFaultKind {
     /// What is wrong, in a sentence's words.
-    fn text(self) -> &'static str {
+    fn text<'t>(self) -> &'t str
+        ensures { result.now ≡ kind_text self }
+    {
         match self {
             CaseFaultKind::NotUtf8 => "the line isn't UTF-8",
             CaseFaultKind::Tab => "the line begins with a tab; blocks are indented by spaces",
@@ -67,6 +70,10 @@ impl CaseFaultKind {
 }
 
 impl fmt::Display for CaseFaultKind {
+    ghost use Rattle.case_files.specs.FaultTexts.{kind_shown};
+
+    ghost output = { kind_shown };
+
     fn fmt<W: fmt::Write>(&self, f: &mut fmt::Formatter<W>) -> fmt::Result {
         f.write_str(self.text())
     }
@@ -81,6 +88,17 @@ pub struct CaseFault {
     pub kind: CaseFaultKind,
 }
 
+impl fmt::Display for CaseFault {
+    ghost use Rattle.case_files.specs.FaultTexts.{fault_shown};
+
+    ghost output = { fault_shown };
+
+    fn fmt<W: fmt::Write>(&self, f: &mut fmt::Formatter<W>) -> fmt::Result {
+        let CaseFault { line, kind } = *self;
+        write!(f, "line {line}: {kind}")
+    }
+}
+
 /// Why cases weren't read.
 #[derive(Debug, Clone, Copy)]
 pub enum ReadCasesError {
@@ -91,6 +109,11 @@ pub enum ReadCasesError {
 }
 
 impl From<OutOfMemory> for ReadCasesError {
+    ghost use Rattle.std.specs.Prelude.{◌≡◌};
+    ghost use Rattle.case_files.specs.declared.fault.ReadCasesError.TheVariants.{Alloc};
+
+    ghost from_gives = { λ _ error. error ≡ Alloc };
+
     fn from(_error: OutOfMemory) -> Self {
         ReadCasesError::Alloc
     }

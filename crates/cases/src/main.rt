@@ -75,8 +75,7 @@ fn run_case(rt: &HostRuntime, case: &Case<'_>) -> io::Result<Option<Difference>>
 
 /// Says what is wrong with the file.
 fn refused(rt: &HostRuntime, fault: CaseFault) -> io::Result<u8> {
-    let CaseFault { line, kind } = fault;
-    eprintln!(rt; "error: line {line}: {kind}")?;
+    eprintln!(rt; "error: {fault}")?;
     Ok(2)
 }
 
